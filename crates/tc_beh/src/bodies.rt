@@ -77,7 +77,8 @@ pub(crate) fn put_text_if(place: &Place<'_, '_>, is_put: bool, sets: &mut OpenSe
     requires place { IsPlace place.now }
     requires sets { IsOpenAt place.now 0 sets.old }
     ensures same { IsBeside place.now.output.now sets.old sets.new }
-    ensures pairs { (x : Triple) → IsPlaceIn x place.now → Extends sets.old.out sets.new.out (value_pairs x is_put) }
+    ensures pairs { (x : Triple) → IsPlaceIn x place.now
+        → Extends sets.old.out sets.new.out (value_pairs x is_put) }
 {
     if is_put {
         sets.put_text();
@@ -91,7 +92,10 @@ pub(crate) fn put_body(place: &Place<'_, '_>, body: &[Instr<'_>], sets: &mut Ope
     requires part { IsPart (told place.now.rules.now).sheet (see.body body.now) }
     requires sets { IsOpenAt place.now (depth_in (see.body body.now)) sets.old }
     ensures same { IsBeside place.now.output.now sets.old sets.new }
-    ensures pairs { (x : Triple) → IsPlaceIn x place.now → Extends sets.old.out sets.new.out (put_pairs x (kind_of place.now.node) (below_of x place.now) (called_by place.now) (see.body body.now)) }
+    ensures pairs { (x : Triple) → IsPlaceIn x place.now
+        → Extends sets.old.out sets.new.out
+        (put_pairs x (kind_of place.now.node) (below_of x place.now) (called_by place.now)
+        (see.body body.now)) }
 {
     for instruction in body {
         put_instruction(place, instruction, sets);
@@ -102,8 +106,10 @@ pub(crate) fn put_body(place: &Place<'_, '_>, body: &[Instr<'_>], sets: &mut Ope
 #[cycle(bodies)]
 fn put_instruction(place: &Place<'_, '_>, instruction: &Instr<'_>, sets: &mut OpenSets)
     requires place { IsPlace place.now }
-    requires part { IsPart (told place.now.rules.now).sheet (see.instruction instruction.now s.no_instruction) }
-    requires sets { IsOpenAt place.now (depth_in (see.instruction instruction.now s.no_instruction)) sets.old }
+    requires part { IsPart (told place.now.rules.now).sheet
+        (see.instruction instruction.now s.no_instruction) }
+    requires sets { IsOpenAt place.now
+        (depth_in (see.instruction instruction.now s.no_instruction)) sets.old }
     ensures same { IsBeside place.now.output.now sets.old sets.new }
     ensures pairs { (x : Triple) (rest : s.Body) → IsPlaceIn x place.now → HaveSamePairs
         (product (has sets.new.out) (put_pairs x (kind_of place.now.node) (below_of x place.now) (called_by place.now) rest))
@@ -141,7 +147,11 @@ fn put_element(place: &Place<'_, '_>, sym: Sym, inner: &[Instr<'_>], sets: &mut 
     requires part { IsPart (told place.now.rules.now).sheet (see.body inner.now) }
     requires sets { IsOpenAt place.now (depth_in (see.body inner.now) + 1) sets.old }
     ensures same { IsBeside place.now.output.now sets.old sets.new }
-    ensures pairs { (x : Triple) → IsPlaceIn x place.now → Extends sets.old.out sets.new.out (around x sym.0 (put_pairs x (kind_of place.now.node) (below_of x place.now) (called_by place.now) (see.body inner.now))) }
+    ensures pairs { (x : Triple) → IsPlaceIn x place.now
+        → Extends sets.old.out sets.new.out
+        (around x sym.0
+        (put_pairs x (kind_of place.now.node) (below_of x place.now) (called_by place.now)
+        (see.body inner.now))) }
 {
     sets.begin();
     put_body(place, inner, sets);
@@ -155,7 +165,11 @@ fn put_copy(place: &Place<'_, '_>, inner: &[Instr<'_>], sets: &mut OpenSets)
     requires part { IsPart (told place.now.rules.now).sheet (see.body inner.now) }
     requires sets { IsOpenAt place.now (depth_in (see.body inner.now) + 1) sets.old }
     ensures same { IsBeside place.now.output.now sets.old sets.new }
-    ensures pairs { (x : Triple) → IsPlaceIn x place.now → Extends sets.old.out sets.new.out (copied_pairs x (kind_of place.now.node) (put_pairs x (kind_of place.now.node) (below_of x place.now) (called_by place.now) (see.body inner.now))) }
+    ensures pairs { (x : Triple) → IsPlaceIn x place.now
+        → Extends sets.old.out sets.new.out
+        (copied_pairs x (kind_of place.now.node)
+        (put_pairs x (kind_of place.now.node) (below_of x place.now) (called_by place.now)
+        (see.body inner.now))) }
 {
     match place.node {
         At::Root => put_body(place, inner, sets),
@@ -169,8 +183,10 @@ fn put_copy(place: &Place<'_, '_>, inner: &[Instr<'_>], sets: &mut OpenSets)
 #[cycle(bodies)]
 fn put_first(place: &Place<'_, '_>, branches: &[Branch<'_>], sets: &mut OpenSets) -> bool
     requires place { IsPlace place.now }
-    requires part { ArePartBranches (told place.now.rules.now).sheet (see.branches branches.now (s.otherwise s.no_instruction)) }
-    requires sets { IsOpenAt place.now (depth_in_branches (see.branches branches.now (s.otherwise s.no_instruction))) sets.old }
+    requires part { ArePartBranches (told place.now.rules.now).sheet
+        (see.branches branches.now (s.otherwise s.no_instruction)) }
+    requires sets { IsOpenAt place.now
+        (depth_in_branches (see.branches branches.now (s.otherwise s.no_instruction))) sets.old }
     ensures same { IsBeside place.now.output.now sets.old sets.new }
     ensures stays { result ≡ false → sets.new ≡ sets.old }
     ensures pairs { (x : Triple) (rest : s.Branches) → IsPlaceIn x place.now → HaveSamePairs
@@ -189,10 +205,18 @@ fn put_first(place: &Place<'_, '_>, branches: &[Branch<'_>], sets: &mut OpenSets
 /// Puts the pairs of what a job puts out on all nodes that a path selects.
 pub(crate) fn put_selected(place: &Place<'_, '_>, path: &Path<'_>, job: Job, sets: &mut OpenSets)
     requires place { IsPlace place.now }
-    requires path { Contains (moves_of (told place.now.rules.now).sheet) (record { path = see.path path.now; mode = mode_of (told place.now.rules.now).sheet.modes job }) }
+    requires path { Contains (moves_of (told place.now.rules.now).sheet)
+        (record {
+          path = see.path path.now;
+          mode = mode_of
+              (told place.now.rules.now).sheet.modes job;
+        }) }
     requires sets { IsOpenAt place.now 0 sets.old }
     ensures same { IsBeside place.now.output.now sets.old sets.new }
-    ensures pairs { (x : Triple) → IsPlaceIn x place.now → Extends sets.old.out sets.new.out ((below_of x place.now).pairs (mode_of (told place.now.rules.now).sheet.modes job) (see.path path.now)) }
+    ensures pairs { (x : Triple) → IsPlaceIn x place.now
+        → Extends sets.old.out sets.new.out
+        ((below_of x place.now).pairs (mode_of (told place.now.rules.now).sheet.modes job)
+        (see.path path.now)) }
 {
     match place.node {
         At::Text => {}
@@ -205,10 +229,18 @@ pub(crate) fn put_selected(place: &Place<'_, '_>, path: &Path<'_>, job: Job, set
 fn put_below(place: &Place<'_, '_>, path: &Path<'_>, job: Job, sets: &mut OpenSets)
     requires place { IsPlace place.now }
     requires node { kind_of place.now.node ≡ on_text → ⊥ }
-    requires path { Contains (moves_of (told place.now.rules.now).sheet) (record { path = see.path path.now; mode = mode_of (told place.now.rules.now).sheet.modes job }) }
+    requires path { Contains (moves_of (told place.now.rules.now).sheet)
+        (record {
+          path = see.path path.now;
+          mode = mode_of
+              (told place.now.rules.now).sheet.modes job;
+        }) }
     requires sets { IsOpenAt place.now 0 sets.old }
     ensures same { IsBeside place.now.output.now sets.old sets.new }
-    ensures pairs { (x : Triple) → IsPlaceIn x place.now → Extends sets.old.out sets.new.out ((below_of x place.now).pairs (mode_of (told place.now.rules.now).sheet.modes job) (see.path path.now)) }
+    ensures pairs { (x : Triple) → IsPlaceIn x place.now
+        → Extends sets.old.out sets.new.out
+        ((below_of x place.now).pairs (mode_of (told place.now.rules.now).sheet.modes job)
+        (see.path path.now)) }
 {
     match place.rules.move_first(path, job) {
         None => {}

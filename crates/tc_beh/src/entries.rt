@@ -93,9 +93,12 @@ fn place_of<'a, 'b>(
 /// The ancestor state below a node of a letter.
 fn state_below(rules: &Rules<'_>, letter: Letter, ancestor: u32) -> u32
     requires ancestor { ancestor < length (told rules.now).ancestors.states }
-    requires letter { (x : Triple) × IsRulesIn x rules.now × IsLetter x.symbols (predicates x) (letter_of letter) }
+    requires letter { (x : Triple) × IsRulesIn x rules.now
+        × IsLetter x.symbols (predicates x) (letter_of letter) }
     ensures low { result < length (told rules.now).ancestors.states }
-    ensures under { (x : Triple) → IsRulesIn x rules.now → IsLetter x.symbols (predicates x) (letter_of letter) → IsUnder x (letter_of letter) ancestor result }
+    ensures under { (x : Triple) → IsRulesIn x rules.now
+        → IsLetter x.symbols (predicates x) (letter_of letter)
+        → IsUnder x (letter_of letter) ancestor result }
 {
     match letter.kind {
         Kind::Elem(sym) => rules.anc_step(ancestor, sym, letter.marks),
@@ -113,8 +116,10 @@ fn put_named_on(
 )
     requires grounds { AreSomeGrounds machine.now outputs.now work.old node }
     requires above { above < length (told machine.now.rules).ancestors.states }
-    ensures work { (x : Triple) → AreGrounds x machine.now outputs.now work.old node.entry → IsWork x machine.now work.new }
-    ensures called { (x : Triple) → AreGrounds x machine.now outputs.now work.old node.entry → AreCalledOn x outputs.now node.entry above work.new.named.items }
+    ensures work { (x : Triple) → AreGrounds x machine.now outputs.now work.old node.entry
+        → IsWork x machine.now work.new }
+    ensures called { (x : Triple) → AreGrounds x machine.now outputs.now work.old node.entry
+        → AreCalledOn x outputs.now node.entry above work.new.named.items }
 {
     let place = place_of(machine, outputs, &work.text, &[], node, above);
     put_named(
@@ -137,7 +142,8 @@ fn put_entry_of(
     requires ancestor { spot.ancestor < length (told machine.now.rules).ancestors.states }
     requires state { spot.state < move_count (told machine.now.rules) }
     requires above { spot.above < length (told machine.now.rules).ancestors.states }
-    ensures work { (x : Triple) → AreGrounds x machine.now outputs.now work.old node.entry → IsWork x machine.now work.new }
+    ensures work { (x : Triple) → AreGrounds x machine.now outputs.now work.old node.entry
+        → IsWork x machine.now work.new }
     ensures named { work.new.named.items ≡ work.old.named.items }
     ensures matrix { IsMatrix work.new.sets.out }
     ensures entry { (x : Triple) → AreGrounds x machine.now outputs.now work.old node.entry → IsUnder x (letter_of node.entry.letter) spot.ancestor spot.above → AreCalledOn x outputs.now node.entry spot.above work.old.named.items
@@ -189,7 +195,8 @@ fn passed_on(machine: &Machine<'_>, outputs: &HeldSets, node: Node<'_>, spot: Sp
 
 /// Whether a state of a move above puts nothing out on a node and below it: it doesn't hit the node, and goes nowhere.
 fn puts_nothing(machine: &Machine<'_>, node: Node<'_>, spot: Spot) -> bool
-    requires node { (x : Triple) × IsRulesIn x machine.now.rules × IsLetter x.symbols (predicates x) (letter_of node.letter) }
+    requires node { (x : Triple) × IsRulesIn x machine.now.rules
+        × IsLetter x.symbols (predicates x) (letter_of node.letter) }
     requires leads { AreLeads machine.now.rules node.letter node.leads.now }
     requires state { spot.state < move_count (told machine.now.rules) }
     ensures { result ≡ true → (x : Triple) (es : List (List (ℕ × ℕ))) (m : Matrix) → IsRulesIn x machine.now.rules → IsLetter x.symbols (predicates x) (letter_of node.entry.letter)
@@ -221,11 +228,16 @@ fn keep_nothing(
     ensures known { IsNothing outputs.new nothing.new }
     ensures set { set.new.size ≡ set.old.size }
     ensures held { Extends outputs.old outputs.new }
-    ensures number { IfOk result (λ k. (k < length outputs.new.matrices) × IsIdentity (set_at outputs.new k) × ((set_at outputs.new k).size ≡ outputs.new.size)) }
-    ensures grows { IfOk result (λ k. ((k < length outputs.old.matrices) × (outputs.new ≡ outputs.old)) ⊎ ((k ≡ length outputs.old.matrices) × (length outputs.new.matrices ≡ length outputs.old.matrices + 1))) }
+    ensures number { IfOk result (λ k. (k < length outputs.new.matrices)
+        × IsIdentity (set_at outputs.new k) × ((set_at outputs.new k).size ≡ outputs.new.size)) }
+    ensures grows { IfOk result (λ k.
+        ((k < length outputs.old.matrices) × (outputs.new ≡ outputs.old)) ⊎
+        ((k ≡ length outputs.old.matrices)
+        × (length outputs.new.matrices ≡ length outputs.old.matrices + 1))) }
     ensures err { OnErr result ((outputs.new ≡ outputs.old) × IsNewNothing outputs.old) }
     ensures fixed { is_fixed ≡ true → outputs.new ≡ outputs.old }
-    ensures full { IsErrOf result RowFault.TooManyOutputs → (is_fixed ≡ false) × (length outputs.old.matrices ≡ 65536) }
+    ensures full { IsErrOf result RowFault.TooManyOutputs → (is_fixed ≡ false)
+        × (length outputs.old.matrices ≡ 65536) }
     ensures fresh { IsErrOf result RowFault.NewOutput → is_fixed ≡ true }
     ensures memory { IsErrOf result RowFault.NoMemory → is_fixed ≡ false }
 {
@@ -254,17 +266,22 @@ fn keep_entry(
     requires above { spot.above < length (told machine.now.rules).ancestors.states }
     requires known { IsNothing outputs.old nothing.old }
     ensures known { IsNothing outputs.new nothing.new }
-    ensures work { (x : Triple) → AreGrounds x machine.now outputs.old work.old node.entry → IsWork x machine.now work.new }
+    ensures work { (x : Triple) → AreGrounds x machine.now outputs.old work.old node.entry
+        → IsWork x machine.now work.new }
     ensures named { work.new.named.items ≡ work.old.named.items }
     ensures held { Extends outputs.old outputs.new }
     ensures low { IfOk result (λ k. k < length outputs.new.matrices) }
-    ensures grows { IfOk result (λ k. ((k < length outputs.old.matrices) × (outputs.new ≡ outputs.old)) ⊎ ((k ≡ length outputs.old.matrices) × (length outputs.new.matrices ≡ length outputs.old.matrices + 1))) }
+    ensures grows { IfOk result (λ k.
+        ((k < length outputs.old.matrices) × (outputs.new ≡ outputs.old)) ⊎
+        ((k ≡ length outputs.old.matrices)
+        × (length outputs.new.matrices ≡ length outputs.old.matrices + 1))) }
     ensures entry { IfOk result (λ k. (x : Triple) → AreGrounds x machine.now outputs.old work.old node.entry → IsUnder x (letter_of node.entry.letter) spot.ancestor spot.above → AreCalledOn x outputs.old node.entry spot.above work.old.named.items
         → IsEntryAt x (entries_by outputs.old.matrices node.entry.entries.now) node.entry (spot.ancestor * moves_of x + spot.state) (set_at outputs.new k)) }
     ensures err { OnErr result ((outputs.new ≡ outputs.old) × ((x : Triple) → AreGrounds x machine.now outputs.old work.old node.entry → IsUnder x (letter_of node.entry.letter) spot.ancestor spot.above → AreCalledOn x outputs.old node.entry spot.above work.old.named.items
         → IsNewEntry x (entries_by outputs.old.matrices node.entry.entries.now) node.entry outputs.old (spot.ancestor * moves_of x + spot.state))) }
     ensures fixed { is_fixed ≡ true → outputs.new ≡ outputs.old }
-    ensures full { IsErrOf result RowFault.TooManyOutputs → (is_fixed ≡ false) × (length outputs.old.matrices ≡ 65536) }
+    ensures full { IsErrOf result RowFault.TooManyOutputs → (is_fixed ≡ false)
+        × (length outputs.old.matrices ≡ 65536) }
     ensures fresh { IsErrOf result RowFault.NewOutput → is_fixed ≡ true }
     ensures memory { IsErrOf result RowFault.NoMemory → is_fixed ≡ false }
 {
@@ -293,9 +310,11 @@ fn put_row(
     requires grounds { AreSomeGrounds machine.now outputs.old work.old node }
     requires ancestor { ancestor < length (told machine.now.rules).ancestors.states }
     requires room { (ancestor + 1) * move_count (told machine.now.rules) ≤ out.old.entries }
-    ensures work { (x : Triple) → AreGrounds x machine.now outputs.old work.old node.entry → IsWork x machine.now work.new }
+    ensures work { (x : Triple) → AreGrounds x machine.now outputs.old work.old node.entry
+        → IsWork x machine.now work.new }
     ensures beside { IsRoomBeside out.old out.new }
-    ensures others { (k : ℕ) → (k < 2 + out.old.flags) ⊎ (2 + out.old.flags + out.old.entries ≤ k) → get_or out.new.numbers.items k 0 ≡ get_or out.old.numbers.items k 0 }
+    ensures others { (k : ℕ) → (k < 2 + out.old.flags) ⊎ (2 + out.old.flags + out.old.entries ≤ k)
+        → get_or out.new.numbers.items k 0 ≡ get_or out.old.numbers.items k 0 }
     ensures held { Extends outputs.old outputs.new }
     ensures comes { OnOk result ((x : Triple) (es : List (List (ℕ × ℕ))) (begun : Held) → AreGrounds x machine.now outputs.old work.old node.entry → es ≡ entries_by outputs.old.matrices node.entry.entries.now
         → Comes x es node.entry begun outputs.old (output_at out.old.flags out.old.numbers.items) (ancestor * moves_of x)
@@ -304,7 +323,8 @@ fn put_row(
         → Comes x es node.entry begun outputs.old (output_at out.old.flags out.old.numbers.items) (ancestor * moves_of x)
         → ComesPartly x es node.entry begun outputs.new) }
     ensures fixed { is_fixed ≡ true → outputs.new ≡ outputs.old }
-    ensures full { IsErrOf result RowFault.TooManyOutputs → (is_fixed ≡ false) × (length outputs.new.matrices ≡ 65536) }
+    ensures full { IsErrOf result RowFault.TooManyOutputs → (is_fixed ≡ false)
+        × (length outputs.new.matrices ≡ 65536) }
     ensures fresh { IsErrOf result RowFault.NewOutput → is_fixed ≡ true }
     ensures memory { IsErrOf result RowFault.NoMemory → is_fixed ≡ false }
 {
@@ -334,17 +354,21 @@ pub(crate) fn put_entries(
     out: &mut Room,
 ) -> Result<(), RowFault>
     requires grounds { AreSomeGrounds machine.now outputs.old work.old node }
-    requires room { length (told machine.now.rules).ancestors.states * move_count (told machine.now.rules) ≡ out.old.entries }
-    ensures work { (x : Triple) → AreGrounds x machine.now outputs.old work.old node.entry → IsWork x machine.now work.new }
+    requires room { length (told machine.now.rules).ancestors.states * move_count
+        (told machine.now.rules) ≡ out.old.entries }
+    ensures work { (x : Triple) → AreGrounds x machine.now outputs.old work.old node.entry
+        → IsWork x machine.now work.new }
     ensures beside { IsRoomBeside out.old out.new }
-    ensures others { (k : ℕ) → (k < 2 + out.old.flags) ⊎ (2 + out.old.flags + out.old.entries ≤ k) → get_or out.new.numbers.items k 0 ≡ get_or out.old.numbers.items k 0 }
+    ensures others { (k : ℕ) → (k < 2 + out.old.flags) ⊎ (2 + out.old.flags + out.old.entries ≤ k)
+        → get_or out.new.numbers.items k 0 ≡ get_or out.old.numbers.items k 0 }
     ensures held { Extends outputs.old outputs.new }
     ensures comes { OnOk result ((x : Triple) → AreGrounds x machine.now outputs.old work.old node.entry
         → Comes x (entries_by outputs.old.matrices node.entry.entries.now) node.entry outputs.old outputs.new (output_at out.old.flags out.new.numbers.items) out.old.entries) }
     ensures partly { OnErr result ((x : Triple) → AreGrounds x machine.now outputs.old work.old node.entry
         → ComesPartly x (entries_by outputs.old.matrices node.entry.entries.now) node.entry outputs.old outputs.new) }
     ensures fixed { is_fixed ≡ true → outputs.new ≡ outputs.old }
-    ensures full { IsErrOf result RowFault.TooManyOutputs → (is_fixed ≡ false) × (length outputs.new.matrices ≡ 65536) }
+    ensures full { IsErrOf result RowFault.TooManyOutputs → (is_fixed ≡ false)
+        × (length outputs.new.matrices ≡ 65536) }
     ensures fresh { IsErrOf result RowFault.NewOutput → is_fixed ≡ true }
     ensures memory { IsErrOf result RowFault.NoMemory → is_fixed ≡ false }
 {

@@ -152,7 +152,8 @@ impl MetSets {
     pub(crate) fn number_of(&mut self, set: &Mat) -> Option<u32>
         requires { set.now.size ≡ self.old.held.size }
         ensures more { MeetsMore self.old self.new }
-        ensures number { IfSome result (λ k. (k < length self.new.held.matrices) × (set_at self.new.held k ≡ set.now)) }
+        ensures number { IfSome result (λ k. (k < length self.new.held.matrices)
+            × (set_at self.new.held k ≡ set.now)) }
     {
         let is_full = self.sets.len() >= self.most;
         match keep(&mut self.sets, is_full, set) {
@@ -165,7 +166,8 @@ impl MetSets {
     pub(crate) fn number_of_held(&mut self, held: u32, set: &Mat) -> Option<u32>
         requires { set.now.size ≡ self.old.held.size }
         ensures more { MeetsMore self.old self.new }
-        ensures number { IfSome result (λ k. (k < length self.new.held.matrices) × (set_at self.new.held k ≡ set.now)) }
+        ensures number { IfSome result (λ k. (k < length self.new.held.matrices)
+            × (set_at self.new.held k ≡ set.now)) }
     {
         let link = held as usize % PLACES;
         let guess = self.links[link];
@@ -181,7 +183,8 @@ impl MetSets {
     pub(crate) fn product(&self, first: Option<u32>, second: Option<u32>) -> Option<u32>
         requires first { IsLow self.now.held first }
         requires second { IsLow self.now.held second }
-        ensures { IfSome result (λ k. (i j : ℕ) × (first ≡ Some i) × (second ≡ Some j) × IsProduct self.now.held i j k) }
+        ensures { IfSome result (λ k. (i j : ℕ) × (first ≡ Some i) × (second ≡ Some j)
+            × IsProduct self.now.held i j k) }
     {
         let (Some(first), Some(second)) = (first, second) else {
             return None;
@@ -203,7 +206,8 @@ impl MetSets {
         second: Option<u32>,
         product: Option<u32>,
     )
-        requires { (i j k : ℕ) → first ≡ Some i → second ≡ Some j → product ≡ Some k → IsProduct self.old.held i j k }
+        requires { (i j k : ℕ) → first ≡ Some i → second ≡ Some j → product ≡ Some k
+            → IsProduct self.old.held i j k }
         ensures { self.new ≡ self.old }
     {
         if let (Some(first), Some(second), Some(product)) = (first, second, product) {
@@ -213,7 +217,8 @@ impl MetSets {
 
     /// The number of the set of an element around a set, if that was met and it is known.
     fn element(&self, symbol: Sym, inner: Option<u32>) -> Option<u32>
-        ensures { IfSome result (λ k. (m : Hedge) → Remembers m self.now → (i : ℕ) × (inner ≡ Some i) × IsElement m self.now.held symbol.0 i k) }
+        ensures { IfSome result (λ k. (m : Hedge) → Remembers m self.now → (i : ℕ)
+            × (inner ≡ Some i) × IsElement m self.now.held symbol.0 i k) }
     {
         let inner = inner?;
         let known = self.elements[place_of(symbol.0, inner)]?;
@@ -228,7 +233,9 @@ impl MetSets {
     fn remember_element(&mut self, symbol: Sym, inner: Option<u32>, element: Option<u32>)
         ensures held { self.new.held ≡ self.old.held }
         ensures text { self.new.text ≡ self.old.text }
-        ensures remembers { (m : Hedge) → Remembers m self.old → ((i k : ℕ) → inner ≡ Some i → element ≡ Some k → IsElement m self.old.held symbol.0 i k) → Remembers m self.new }
+        ensures remembers { (m : Hedge) → Remembers m self.old
+            → ((i k : ℕ) → inner ≡ Some i → element ≡ Some k
+            → IsElement m self.old.held symbol.0 i k) → Remembers m self.new }
     {
         if let (Some(inner), Some(element)) = (inner, element) {
             self.elements[place_of(symbol.0, inner)] = Some(Element {
@@ -254,7 +261,8 @@ impl MetSets {
         requires words { words.now.size ≡ self.now.held.size }
         requires out { out.old.size ≡ self.now.held.size }
         ensures size { out.new.size ≡ out.old.size }
-        ensures around { IsAround output.now symbol.0 (set_or self.now.held inner words.now) out.new }
+        ensures around { IsAround output.now symbol.0
+            (set_or self.now.held inner words.now) out.new }
     {
         match inner {
             Some(number) => output.element_into(symbol, self.get(number), out),
@@ -283,7 +291,8 @@ impl MetSets {
         ensures remembers { Remembers output.now self.new }
         ensures led { led.new.size ≡ led.old.size }
         ensures low { IsLow self.new.held result }
-        ensures around { IsAround output.now symbol.0 (set_or self.old.held inner words.now) (set_or self.new.held result led.new) }
+        ensures around { IsAround output.now symbol.0 (set_or self.old.held inner words.now)
+            (set_or self.new.held result led.new) }
     {
         if let Some(element) = self.element(symbol, inner) {
             return Some(element);

@@ -61,7 +61,8 @@ fn multiply(met: &MetSets, first: &OpenSet, second: Option<u32>, words: &Mat, ou
     requires out { out.old.size ≡ met.now.held.size }
     ensures size { out.new.size ≡ out.old.size }
     ensures matrix { IsMatrix out.new }
-    ensures pairs { IsComposition (set_of met.now.held first.now) (set_or met.now.held second words.now) out.new }
+    ensures pairs { IsComposition (set_of met.now.held first.now)
+        (set_or met.now.held second words.now) out.new }
 {
     match first.number {
         Some(number) => met.put_product(met.get(number), second, words, out),
@@ -85,7 +86,8 @@ fn put_behind(
     ensures matrices { AreMatrices met.new.held }
     ensures out { IsOpenSet met.new.held out.new }
     ensures room { room.new.size ≡ room.old.size }
-    ensures pairs { IsComposition (set_of met.old.held out.old) (set_or met.old.held number words.now) (set_of met.new.held out.new) }
+    ensures pairs { IsComposition (set_of met.old.held out.old)
+        (set_or met.old.held number words.now) (set_of met.new.held out.new) }
 {
     if let Some(product) = met.product(out.number, number) {
         out.number = Some(product);
@@ -108,7 +110,8 @@ fn empty_places(
     size: u32,
 ) -> Result<Vec<OpenSet>, NoMemory>
     ensures count { IfOk result (λ v. length v.items ≡ count) }
-    ensures sets { IfOk result (λ v. All (λ o. (o.number ≡ Some number) × (o.words.size ≡ size)) v.items) }
+    ensures sets { IfOk result (λ v. All
+        (λ o. (o.number ≡ Some number) × (o.words.size ≡ size)) v.items) }
 {
     let mut places = Vec::new(alloc);
     for _ in 0..count {

@@ -35,7 +35,8 @@ use tc_mat::Mat;
 /// Whether some element pattern with a flag is an alternative of the schema's start.
 fn has_start(auto: &Auto<'_>, patterns: &[u32]) -> bool
     requires { length patterns.now ≡ patterns_of auto.now }
-    ensures { (side : s.Side) (x : g.Grammar) → Stands side x auto.now → result ≡ list_any (λ k. s.is_alternative k x.start) (flagged 1 patterns.now) }
+    ensures { (side : s.Side) (x : g.Grammar) → Stands side x auto.now → result
+        ≡ list_any (λ k. s.is_alternative k x.start) (flagged 1 patterns.now) }
 {
     for before in 0..auto.patterns() {
         if is_set(patterns, before as usize) && auto.starts(before + 1) {
@@ -48,7 +49,8 @@ fn has_start(auto: &Auto<'_>, patterns: &[u32]) -> bool
 /// Whether pairs lead state 0 of a schema to one in which its start accepts.
 fn leads_to_end(auto: &Auto<'_>, set: &Mat) -> bool
     requires { set.now.size ≡ states_of auto.now }
-    ensures { (x : g.Grammar) → Stands s.output x auto.now → IsTrue result ↔ ((j : ℕ) × HasPair set.now 0 j × (s.automaton x.start).accepting j) }
+    ensures { (x : g.Grammar) → Stands s.output x auto.now
+        → IsTrue result ↔ ((j : ℕ) × HasPair set.now 0 j × (s.automaton x.start).accepting j) }
 {
     for state in 0..auto.end(0) {
         if set.has(0, state) && auto.accepts(state) {
@@ -75,8 +77,11 @@ fn put_on_root(place: &Place<'_, '_>, sets: &mut OpenSets)
 /// Leaves, in the set that is worked out, where what is put out on the root of a document leads the output.
 fn put_root(machine: &Machine<'_>, outputs: &HeldSets, work: &mut Work, tree: &Room)
     requires { (x : Triple) × IsRootIn x machine.now outputs.now work.old tree.now }
-    ensures work { (x : Triple) → IsRootIn x machine.now outputs.now work.old tree.now → IsWork x machine.now work.new }
-    ensures pairs { (x : Triple) → IsRootIn x machine.now outputs.now work.old tree.now → HaveSamePairs (has work.new.sets.out) (root_pairs x (tree_row x outputs.now.matrices tree.now.numbers.items)) }
+    ensures work { (x : Triple) → IsRootIn x machine.now outputs.now work.old tree.now
+        → IsWork x machine.now work.new }
+    ensures pairs { (x : Triple) → IsRootIn x machine.now outputs.now work.old tree.now
+        → HaveSamePairs (has work.new.sets.out)
+        (root_pairs x (tree_row x outputs.now.matrices tree.now.numbers.items)) }
 {
     let _held = outputs.len();
     let ground = Place {
@@ -116,7 +121,8 @@ impl<'m, 'b> Rows<'m, 'b> {
     pub fn admitted(&self, t: &TRow) -> bool
         requires rows { AreRows self.now }
         requires tree { (x : Triple) → AreRowsOf x self.now → StandsForTree x self.now t.now }
-        ensures { (x : Triple) → AreRowsOf x self.now → result ≡ is_admitted x (tree_of x self.now t.now) }
+        ensures { (x : Triple) → AreRowsOf x self.now → result
+            ≡ is_admitted x (tree_of x self.now t.now) }
     {
         has_start(self.machine.input.auto(), t.room.flags())
     }
@@ -128,7 +134,8 @@ impl<'m, 'b> Rows<'m, 'b> {
         ensures rows { (x : Triple) → AreRowsOf x self.old → AreRowsOf x self.new }
         ensures same { AreSameRows self.old self.new }
         ensures outputs { self.new.outputs ≡ self.old.outputs }
-        ensures passing { (x : Triple) → AreRowsOf x self.old → IsTrue result ↔ IsPassing x (tree_of x self.old t.now) }
+        ensures passing { (x : Triple) → AreRowsOf x self.old
+            → IsTrue result ↔ IsPassing x (tree_of x self.old t.now) }
     {
         let machine = self.machine;
         put_root(machine, &self.outputs, &mut self.work, &t.room);

@@ -57,8 +57,12 @@ pub(crate) fn template_at<'b>(
 ) -> Template<'b>
     requires ancestor { ancestor < length (told rules.now).ancestors.states }
     requires state { state < move_count (told rules.now) }
-    requires letter { (x : Triple) × IsRulesIn x rules.now × letters.IsLetter x.symbols (predicates x) (letter_of letter) × AreKnown x.symbols x.rules known.old }
-    ensures known { (x : Triple) → IsRulesIn x rules.now → letters.IsLetter x.symbols (predicates x) (letter_of letter) → AreKnown x.symbols x.rules known.old → AreKnown x.symbols x.rules known.new }
+    requires letter { (x : Triple) × IsRulesIn x rules.now
+        × letters.IsLetter x.symbols (predicates x) (letter_of letter)
+        × AreKnown x.symbols x.rules known.old }
+    ensures known { (x : Triple) → IsRulesIn x rules.now
+        → letters.IsLetter x.symbols (predicates x) (letter_of letter)
+        → AreKnown x.symbols x.rules known.old → AreKnown x.symbols x.rules known.new }
     ensures part { IsPartTemplate (told rules.now).sheet result }
     ensures depth { depth_of result ≤ depth_of_sheet (told rules.now).sheet }
     ensures meant { (x : Triple) (g : Going) → IsRulesIn x rules.now → letters.IsLetter x.symbols (predicates x) (letter_of letter) → AreKnown x.symbols x.rules known.old → IsMoveAt x.rules state g
@@ -95,7 +99,10 @@ fn put_built_in(place: &Place<'_, '_>, mode: u32, sets: &mut OpenSets)
     requires mode { mode < (told place.now.rules.now).sheet.modes }
     requires sets { IsOpenAt place.now 0 sets.old }
     ensures same { IsBeside place.now.output.now sets.old sets.new }
-    ensures pairs { (x : Triple) → IsPlaceIn x place.now → Extends sets.old.out sets.new.out (body_pairs x (built_in_on (kind_of place.now.node) mode) (kind_of place.now.node) (below_of x place.now)) }
+    ensures pairs { (x : Triple) → IsPlaceIn x place.now
+        → Extends sets.old.out sets.new.out
+        (body_pairs x (built_in_on (kind_of place.now.node) mode) (kind_of place.now.node)
+        (below_of x place.now)) }
 {
     match place.node {
         At::Text => put_text_if(place, true, sets),

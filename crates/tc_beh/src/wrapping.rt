@@ -38,17 +38,28 @@ fn put_node(
 ) -> Result<(), RowFault>
     requires grounds { AreSomeGrounds machine.now outputs.old work.old node }
     requires few { (i : ℕ) → get_or node.looks.now i 0 ≤ 2 }
-    requires room { (x : Triple) × AreGrounds x machine.now outputs.old work.old node × IsRoomOf (tree_layout x) out.old }
-    ensures work { (x : Triple) → AreGrounds x machine.now outputs.old work.old node.entry → IsWork x machine.now work.new }
+    requires room { (x : Triple) × AreGrounds x machine.now outputs.old work.old node
+        × IsRoomOf (tree_layout x) out.old }
+    ensures work { (x : Triple) → AreGrounds x machine.now outputs.old work.old node.entry
+        → IsWork x machine.now work.new }
     ensures beside { IsRoomBeside out.old out.new }
-    ensures others { (k : ℕ) → k < 2 + out.old.flags → get_or out.new.numbers.items k 0 ≡ get_or out.old.numbers.items k 0 }
+    ensures others { (k : ℕ) → k < 2 + out.old.flags → get_or out.new.numbers.items k 0
+        ≡ get_or out.old.numbers.items k 0 }
     ensures held { Extends outputs.old outputs.new }
     ensures sets { AreMatrices outputs.new }
-    ensures row { OnOk result ((x : Triple) → AreGrounds x machine.now outputs.old work.old node.entry → IsRoomOf (tree_layout x) out.old → IsNodeRow x outputs.old outputs.new node.entry out.new.numbers.items) }
-    ensures grows { OnOk result (Grows outputs.old outputs.new (output_at out.old.flags out.new.numbers.items) out.old.entries) }
-    ensures partly { OnErr result ((x : Triple) → AreGrounds x machine.now outputs.old work.old node.entry → ComesPartly x (entries_by outputs.old.matrices node.entry.entries.now) node.entry outputs.old outputs.new) }
+    ensures row { OnOk result ((x : Triple)
+        → AreGrounds x machine.now outputs.old work.old node.entry
+        → IsRoomOf (tree_layout x) out.old
+        → IsNodeRow x outputs.old outputs.new node.entry out.new.numbers.items) }
+    ensures grows { OnOk result (Grows outputs.old outputs.new
+        (output_at out.old.flags out.new.numbers.items) out.old.entries) }
+    ensures partly { OnErr result ((x : Triple)
+        → AreGrounds x machine.now outputs.old work.old node.entry
+        → ComesPartly x
+        (entries_by outputs.old.matrices node.entry.entries.now) node.entry outputs.old outputs.new) }
     ensures fixed { is_fixed ≡ true → outputs.new ≡ outputs.old }
-    ensures full { IsErrOf result RowFault.TooManyOutputs → (is_fixed ≡ false) × (length outputs.new.matrices ≡ 65536) }
+    ensures full { IsErrOf result RowFault.TooManyOutputs → (is_fixed ≡ false)
+        × (length outputs.new.matrices ≡ 65536) }
     ensures fresh { IsErrOf result RowFault.NewOutput → is_fixed ≡ true }
     ensures memory { IsErrOf result RowFault.NoMemory → is_fixed ≡ false }
 {
@@ -97,7 +108,9 @@ fn text_node<'a>(letter: Letter, leads: &'a [Lead]) -> Node<'a>
 /// The letter of an element of a symbol around a list of trees.
 fn element_letter(machine: &Machine<'_>, sym: Sym, hedge: &Room) -> Letter
     requires { AreRules machine.now.rules }
-    ensures { (x : Triple) → IsRulesIn x machine.now.rules → letter_of result ≡ letter_around x sym.0 (looks_in hedge.now.flags hedge.now.entries hedge.now.numbers.items) }
+    ensures { (x : Triple) → IsRulesIn x machine.now.rules → letter_of result
+        ≡ letter_around x sym.0
+        (looks_in hedge.now.flags hedge.now.entries hedge.now.numbers.items) }
 {
     let looks = hedge.looks();
     Letter {
@@ -110,8 +123,10 @@ fn element_letter(machine: &Machine<'_>, sym: Sym, hedge: &Room) -> Letter
 fn node_around<'a>(letter: Letter, hedge: &'a Room, leads: &'a [Lead]) -> Node<'a>
     ensures letter { result.letter ≡ letter }
     ensures bears { result.bears ≡ (get_or hedge.now.numbers.items 1 0 == 1) }
-    ensures entries { result.entries.now ≡ outputs_in hedge.now.flags hedge.now.entries hedge.now.numbers.items }
-    ensures looks { result.looks.now ≡ looks_in hedge.now.flags hedge.now.entries hedge.now.numbers.items }
+    ensures entries { result.entries.now
+        ≡ outputs_in hedge.now.flags hedge.now.entries hedge.now.numbers.items }
+    ensures looks { result.looks.now
+        ≡ looks_in hedge.now.flags hedge.now.entries hedge.now.numbers.items }
     ensures leads { result.leads.now ≡ leads.now }
 {
     Node {
@@ -145,19 +160,28 @@ impl<'m, 'b> Rows<'m, 'b> {
     /// (`NoMemory`).
     pub fn text_row(&mut self, out: &mut TRow) -> Result<bool, RowFault>
         requires rows { AreRows self.old }
-        requires room { (x : Triple) → AreRowsOf x self.old → IsRoomOf (tree_layout x) out.old.room }
+        requires room { (x : Triple) → AreRowsOf x self.old
+            → IsRoomOf (tree_layout x) out.old.room }
         ensures rows { (x : Triple) → AreRowsOf x self.old → AreRowsOf x self.new }
         ensures same { AreSameRows self.old self.new }
         ensures room { IsRoomBeside out.old.room out.new.room }
         ensures held { Extends self.old.outputs self.new.outputs }
-        ensures dead { IfOk result (λ b. b ≡ false → (self.new.outputs ≡ self.old.outputs) × ((x : Triple) → AreRowsOf x self.old → ¬ IsTextLive x)) }
-        ensures live { IfOk result (λ b. b ≡ true → (x : Triple) → AreRowsOf x self.old → IsTextLive x) }
-        ensures row { IfOk result (λ b. b ≡ true → (x : Triple) → AreRowsOf x self.old → StandsForTree x self.new out.new × IsTextRow x (tree_of x self.new out.new)) }
-        ensures grows { IfOk result (λ b. b ≡ true → Grows self.old.outputs self.new.outputs (output_at out.new.room.flags out.new.room.numbers.items) out.new.room.entries) }
+        ensures dead { IfOk result (λ b. b ≡ false → (self.new.outputs ≡ self.old.outputs)
+            × ((x : Triple) → AreRowsOf x self.old → ¬ IsTextLive x)) }
+        ensures live { IfOk result (λ b. b ≡ true → (x : Triple) → AreRowsOf x self.old
+            → IsTextLive x) }
+        ensures row { IfOk result (λ b. b ≡ true → (x : Triple) → AreRowsOf x self.old
+            → StandsForTree x self.new out.new × IsTextRow x (tree_of x self.new out.new)) }
+        ensures grows { IfOk result (λ b. b ≡ true
+            → Grows self.old.outputs self.new.outputs
+            (output_at out.new.room.flags out.new.room.numbers.items) out.new.room.entries) }
         ensures err { OnErr result ((x : Triple) → AreRowsOf x self.old → IsTextLive x) }
-        ensures partly { OnErr result ((x : Triple) (r : TreeRow) → AreRowsOf x self.old → IsTextRow x r → GrowsBy self.old.outputs self.new.outputs r.entries × IsLeftOut self.new.outputs r.entries) }
+        ensures partly { OnErr result ((x : Triple) (r : TreeRow) → AreRowsOf x self.old
+            → IsTextRow x r → GrowsBy self.old.outputs self.new.outputs r.entries
+            × IsLeftOut self.new.outputs r.entries) }
         ensures fixed { self.old.is_fixed ≡ true → self.new.outputs ≡ self.old.outputs }
-        ensures full { IsErrOf result RowFault.TooManyOutputs → (self.old.is_fixed ≡ false) × (length self.new.outputs.matrices ≡ 65536) }
+        ensures full { IsErrOf result RowFault.TooManyOutputs → (self.old.is_fixed ≡ false)
+            × (length self.new.outputs.matrices ≡ 65536) }
         ensures fresh { IsErrOf result RowFault.NewOutput → self.old.is_fixed ≡ true }
         ensures memory { IsErrOf result RowFault.NoMemory → self.old.is_fixed ≡ false }
     {
@@ -192,19 +216,32 @@ impl<'m, 'b> Rows<'m, 'b> {
         requires rows { AreRows self.old }
         requires symbol { (x : Triple) → AreRowsOf x self.old → sym.0 < symbol_count x.symbols }
         requires hedge { (x : Triple) → AreRowsOf x self.old → StandsForHedge x self.old h.now }
-        requires room { (x : Triple) → AreRowsOf x self.old → IsRoomOf (tree_layout x) out.old.room }
+        requires room { (x : Triple) → AreRowsOf x self.old
+            → IsRoomOf (tree_layout x) out.old.room }
         ensures rows { (x : Triple) → AreRowsOf x self.old → AreRowsOf x self.new }
         ensures same { AreSameRows self.old self.new }
         ensures room { IsRoomBeside out.old.room out.new.room }
         ensures held { Extends self.old.outputs self.new.outputs }
-        ensures dead { IfOk result (λ b. b ≡ false → (self.new.outputs ≡ self.old.outputs) × ((x : Triple) → AreRowsOf x self.old → ¬ IsLiveWrap x sym.0 (hedge_of x self.old h.now))) }
-        ensures live { IfOk result (λ b. b ≡ true → (x : Triple) → AreRowsOf x self.old → IsLiveWrap x sym.0 (hedge_of x self.old h.now)) }
-        ensures row { IfOk result (λ b. b ≡ true → (x : Triple) → AreRowsOf x self.old → StandsForTree x self.new out.new × IsWrap x sym.0 (hedge_of x self.old h.now) (tree_of x self.new out.new)) }
-        ensures grows { IfOk result (λ b. b ≡ true → Grows self.old.outputs self.new.outputs (output_at out.new.room.flags out.new.room.numbers.items) out.new.room.entries) }
-        ensures err { OnErr result ((x : Triple) → AreRowsOf x self.old → IsLiveWrap x sym.0 (hedge_of x self.old h.now)) }
-        ensures partly { OnErr result ((x : Triple) (r : TreeRow) → AreRowsOf x self.old → IsWrap x sym.0 (hedge_of x self.old h.now) r → GrowsBy self.old.outputs self.new.outputs r.entries × IsLeftOut self.new.outputs r.entries) }
+        ensures dead { IfOk result (λ b. b ≡ false → (self.new.outputs ≡ self.old.outputs)
+            × ((x : Triple) → AreRowsOf x self.old
+            → ¬ IsLiveWrap x sym.0 (hedge_of x self.old h.now))) }
+        ensures live { IfOk result (λ b. b ≡ true → (x : Triple) → AreRowsOf x self.old
+            → IsLiveWrap x sym.0 (hedge_of x self.old h.now)) }
+        ensures row { IfOk result (λ b. b ≡ true → (x : Triple) → AreRowsOf x self.old
+            → StandsForTree x self.new out.new
+            × IsWrap x sym.0 (hedge_of x self.old h.now) (tree_of x self.new out.new)) }
+        ensures grows { IfOk result (λ b. b ≡ true
+            → Grows self.old.outputs self.new.outputs
+            (output_at out.new.room.flags out.new.room.numbers.items) out.new.room.entries) }
+        ensures err { OnErr result ((x : Triple) → AreRowsOf x self.old
+            → IsLiveWrap x sym.0 (hedge_of x self.old h.now)) }
+        ensures partly { OnErr result ((x : Triple) (r : TreeRow) → AreRowsOf x self.old
+            → IsWrap x sym.0 (hedge_of x self.old h.now) r
+            → GrowsBy self.old.outputs self.new.outputs r.entries
+            × IsLeftOut self.new.outputs r.entries) }
         ensures fixed { self.old.is_fixed ≡ true → self.new.outputs ≡ self.old.outputs }
-        ensures full { IsErrOf result RowFault.TooManyOutputs → (self.old.is_fixed ≡ false) × (length self.new.outputs.matrices ≡ 65536) }
+        ensures full { IsErrOf result RowFault.TooManyOutputs → (self.old.is_fixed ≡ false)
+            × (length self.new.outputs.matrices ≡ 65536) }
         ensures fresh { IsErrOf result RowFault.NewOutput → self.old.is_fixed ≡ true }
         ensures memory { IsErrOf result RowFault.NoMemory → self.old.is_fixed ≡ false }
     {

@@ -19,7 +19,8 @@ use bumpalo::Bump;
 
 /// Whether steps of this form end in an attribute step, where they are no other nodes.
 fn ends_so(written: Form, other: bool) -> bool
-    ensures { MatchBool result ((form written ≡ p.dropped) × (other ≡ false)) ((form written ≡ p.dropped) × (other ≡ false) → ⊥) }
+    ensures { MatchBool result ((form written ≡ p.dropped) × (other ≡ false))
+        ((form written ≡ p.dropped) × (other ≡ false) → ⊥) }
 {
     match written {
         Form::Dropped => !other,
@@ -29,7 +30,8 @@ fn ends_so(written: Form, other: bool) -> bool
 
 /// Whether `comment()` or `processing-instruction()` stands at the front.
 fn is_other_node(tokens: &[Token<'_>]) -> bool
-    ensures { MatchBool result ((r : List path.Token) × p.OtherNodeAt (tokens_of tokens.now) r) ((r : List path.Token) → p.OtherNodeAt (tokens_of tokens.now) r → ⊥) }
+    ensures { MatchBool result ((r : List path.Token) × p.OtherNodeAt (tokens_of tokens.now) r)
+        ((r : List path.Token) → p.OtherNodeAt (tokens_of tokens.now) r → ⊥) }
 {
     match after_other_node(tokens) {
         Some(_) => true,
@@ -43,8 +45,11 @@ fn ends_in_attribute<'a, 'b, 't>(
     scope: &Scope<'_, 'b>,
     tokens: &'a [Token<'t>],
 ) -> Result<(bool, &'a [Token<'t>]), PathFault>
-    ensures ok { IfOk result (λ r. EndsIn (in_scope scope.now) (tokens_of tokens.now) r.0 (tokens_of r.1.now)) }
-    ensures no { IfErr result (λ e. OrNoMemory e ((ss : sheets.Steps) (f : p.Form) (after : List path.Token) → p.AlternativeAt (in_scope scope.now) (tokens_of tokens.now) ss f after → ⊥)) }
+    ensures ok { IfOk result (λ r. EndsIn (in_scope scope.now) (tokens_of tokens.now) r.0
+        (tokens_of r.1.now)) }
+    ensures no { IfErr result (λ e. OrNoMemory e
+        ((ss : sheets.Steps) (f : p.Form) (after : List path.Token)
+        → p.AlternativeAt (in_scope scope.now) (tokens_of tokens.now) ss f after → ⊥)) }
     ensures shorter { IfOk result (λ r. length r.1.now < length tokens.now) }
 {
     let other = is_other_node(tokens);
@@ -65,9 +70,14 @@ pub(crate) fn are_attributes<'b>(
     scope: &Scope<'_, 'b>,
     tokens: &[Token<'_>],
 ) -> Result<bool, PathFault>
-    ensures ok { IfOk result (λ all. MatchBool all (p.AttributesAt (in_scope scope.now) (tokens_of tokens.now) []) (p.AttributesAt (in_scope scope.now) (tokens_of tokens.now) [] → ⊥)) }
-    ensures select { IfOk result (λ _. (q : sheets.Path) × (drops : Bool) × p.SelectAt (in_scope scope.now) (tokens_of tokens.now) q drops []) }
-    ensures no { IfErr result (λ e. OrNoMemory e ((q : sheets.Path) (drops : Bool) → p.SelectAt (in_scope scope.now) (tokens_of tokens.now) q drops [] → ⊥)) }
+    ensures ok { IfOk result (λ all. MatchBool all
+        (p.AttributesAt (in_scope scope.now) (tokens_of tokens.now) [])
+        (p.AttributesAt (in_scope scope.now) (tokens_of tokens.now) [] → ⊥)) }
+    ensures select { IfOk result (λ _. (q : sheets.Path) × (drops : Bool)
+        × p.SelectAt (in_scope scope.now) (tokens_of tokens.now) q drops []) }
+    ensures no { IfErr result (λ e. OrNoMemory e
+        ((q : sheets.Path) (drops : Bool)
+        → p.SelectAt (in_scope scope.now) (tokens_of tokens.now) q drops [] → ⊥)) }
 {
     let (first, mut rest) = ends_in_attribute(arena, scope, tokens)?;
     let mut all = first;

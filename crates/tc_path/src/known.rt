@@ -20,7 +20,8 @@ pub(crate) type Known<'s, 'b> = BTreeMap<&'s str, Option<&'b str>, &'s Bump>;
 
 /// The namespace name to which a prefix is bound.
 pub(crate) fn uri_among<'b>(bindings: &[Binding<'b>], prefix: &str) -> Option<&'b str>
-    ensures { MatchOption result (xml.uri_of (map bound bindings.now) prefix.now ≡ None) (λ uri. xml.uri_of (map bound bindings.now) prefix.now ≡ Some uri.now) }
+    ensures { MatchOption result (xml.uri_of (map bound bindings.now) prefix.now ≡ None)
+        (λ uri. xml.uri_of (map bound bindings.now) prefix.now ≡ Some uri.now) }
 {
     for binding in bindings {
         if binding.prefix == prefix {
@@ -42,7 +43,8 @@ fn prefix_of<'t>(token: &Token<'t>) -> Option<&'t str> {
 
 /// Seeks the prefix of a token, if it has one.
 fn seek<'s, 'b>(known: &mut Known<'s, 'b>, token: &Token<'s>) -> Result<(), PathFault>
-    ensures ok { OnOk result ((scope : List Bound) → AreRightBefore scope scope known.old → AreRightBefore scope scope known.new) }
+    ensures ok { OnOk result ((scope : List Bound) → AreRightBefore scope scope known.old
+        → AreRightBefore scope scope known.new) }
     ensures no { IfErr result (λ e. e ≡ NoMemory) }
 {
     let Some(prefix) = prefix_of(token) else {
@@ -66,7 +68,8 @@ fn sought<'s, 'b>(arena: &'s Bump, tokens: &[Token<'s>]) -> Result<Known<'s, 'b>
 
 /// Whether a prefix stands in a text and isn't found yet.
 fn is_sought(known: &Known<'_, '_>, prefix: &str) -> bool
-    ensures { MatchBool result (found_in known.now prefix.now ≡ Some None) (found_in known.now prefix.now ≡ Some None → ⊥) }
+    ensures { MatchBool result (found_in known.now prefix.now ≡ Some None)
+        (found_in known.now prefix.now ≡ Some None → ⊥) }
 {
     match known.get(prefix) {
         Some(found) => found.is_none(),
@@ -76,7 +79,9 @@ fn is_sought(known: &Known<'_, '_>, prefix: &str) -> bool
 
 /// Finds the prefix of a binding, where it is sought.
 fn find<'s, 'b: 's>(known: &mut Known<'s, 'b>, binding: &Binding<'b>) -> Result<(), PathFault>
-    ensures ok { OnOk result ((scope rest : List Bound) → AreRightBefore scope (bound binding.now ∷ rest) known.old → AreRightBefore scope rest known.new) }
+    ensures ok { OnOk result ((scope rest : List Bound)
+        → AreRightBefore scope (bound binding.now ∷ rest) known.old
+        → AreRightBefore scope rest known.new) }
     ensures no { IfErr result (λ e. e ≡ NoMemory) }
 {
     if !is_sought(known, binding.prefix) {

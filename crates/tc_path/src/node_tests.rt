@@ -20,7 +20,10 @@ use tc_scan::QualifiedName;
 
 /// The namespace name of a name test: none without a prefix.
 fn namespace_of_name<'b>(scope: &Scope<'_, 'b>, name: &QualifiedName<'_>) -> Option<&'b str>
-    ensures { MatchOption result ((m : ExpandedName) → p.NameMeans (in_scope scope.now) (written_name name.now) m → ⊥) (λ uri. p.NameMeans (in_scope scope.now) (written_name name.now) (record { uri = uri.now; local = (written_name name.now).local })) }
+    ensures { MatchOption result
+        ((m : ExpandedName) → p.NameMeans (in_scope scope.now) (written_name name.now) m → ⊥)
+        (λ uri. p.NameMeans (in_scope scope.now) (written_name name.now)
+        (record { uri = uri.now; local = (written_name name.now).local })) }
 {
     if name.prefix.is_empty() {
         Some("")
@@ -31,7 +34,11 @@ fn namespace_of_name<'b>(scope: &Scope<'_, 'b>, name: &QualifiedName<'_>) -> Opt
 
 /// What follows `WORD()`.
 pub(crate) fn after_call<'a, 't>(tokens: &'a [Token<'t>], word: &str) -> Option<&'a [Token<'t>]>
-    ensures { MatchOption result ((r : List path.Token) → (tokens_of tokens.now) ≡ p.word word.now ∷ path.mark path.open_parenthesis ∷ path.mark path.close_parenthesis ∷ r → ⊥) (λ rest. (tokens_of tokens.now) ≡ p.word word.now ∷ path.mark path.open_parenthesis ∷ path.mark path.close_parenthesis ∷ tokens_of rest.now) }
+    ensures { MatchOption result
+        ((r : List path.Token) → (tokens_of tokens.now)
+        ≡ p.word word.now ∷ path.mark path.open_parenthesis ∷ path.mark path.close_parenthesis ∷ r
+        → ⊥) (λ rest. (tokens_of tokens.now)
+        ≡ p.word word.now ∷ path.mark path.open_parenthesis ∷ path.mark path.close_parenthesis ∷ tokens_of rest.now) }
 {
     match after_open_call(tokens, word) {
         Some(inside) => after_mark(inside, Mark::CloseParenthesis),
@@ -41,7 +48,11 @@ pub(crate) fn after_call<'a, 't>(tokens: &'a [Token<'t>], word: &str) -> Option<
 
 /// What follows `WORD::`.
 fn after_axis<'a, 't>(tokens: &'a [Token<'t>], word: &str) -> Option<&'a [Token<'t>]>
-    ensures { MatchOption result ((r : List path.Token) → (tokens_of tokens.now) ≡ p.word word.now ∷ path.mark path.colons ∷ r → ⊥) (λ rest. (tokens_of tokens.now) ≡ p.word word.now ∷ path.mark path.colons ∷ tokens_of rest.now) }
+    ensures { MatchOption result
+        ((r : List path.Token) → (tokens_of tokens.now)
+        ≡ p.word word.now ∷ path.mark path.colons ∷ r → ⊥)
+        (λ rest. (tokens_of tokens.now)
+        ≡ p.word word.now ∷ path.mark path.colons ∷ tokens_of rest.now) }
 {
     match after_word(tokens, word) {
         Some(rest) => after_mark(rest, Mark::Colons),
@@ -51,7 +62,8 @@ fn after_axis<'a, 't>(tokens: &'a [Token<'t>], word: &str) -> Option<&'a [Token<
 
 /// Whether a name before these tokens is a name test.
 fn ends_name_test(tokens: &[Token<'_>]) -> bool
-    ensures { MatchBool result (p.EndsNameTest (tokens_of tokens.now)) (p.EndsNameTest (tokens_of tokens.now) → ⊥) }
+    ensures { MatchBool result (p.EndsNameTest (tokens_of tokens.now))
+        (p.EndsNameTest (tokens_of tokens.now) → ⊥) }
 {
     !begins_with(tokens, Mark::OpenParenthesis) && !begins_with(tokens, Mark::Colons)
 }
@@ -62,9 +74,16 @@ fn name_test<'a, 'b, 't>(
     scope: &Scope<'_, 'b>,
     tokens: &'a [Token<'t>],
 ) -> Result<(NodeTest<'b>, &'a [Token<'t>]), PathFault>
-    requires no_text { (r : List path.Token) → (tokens_of tokens.now) ≡ p.word (codes "text") ∷ path.mark path.open_parenthesis ∷ path.mark path.close_parenthesis ∷ r → ⊥ }
-    requires no_node { (r : List path.Token) → (tokens_of tokens.now) ≡ p.word (codes "node") ∷ path.mark path.open_parenthesis ∷ path.mark path.close_parenthesis ∷ r → ⊥ }
-    ensures { MatchResult result (λ r. p.NodeTestAt (in_scope scope.now) (tokens_of tokens.now) (seen.node_test r.0) (tokens_of r.1.now) × (length r.1.now < length tokens.now)) (λ e. OrNoMemory e ((t : sheets.NodeTest) (after : List path.Token) → p.NodeTestAt (in_scope scope.now) (tokens_of tokens.now) t after → ⊥)) }
+    requires no_text { (r : List path.Token) → (tokens_of tokens.now)
+        ≡ p.word (codes "text") ∷ path.mark path.open_parenthesis ∷ path.mark path.close_parenthesis ∷ r → ⊥ }
+    requires no_node { (r : List path.Token) → (tokens_of tokens.now)
+        ≡ p.word (codes "node") ∷ path.mark path.open_parenthesis ∷ path.mark path.close_parenthesis ∷ r → ⊥ }
+    ensures { MatchResult result
+        (λ r. p.NodeTestAt (in_scope scope.now) (tokens_of tokens.now) (seen.node_test r.0)
+        (tokens_of r.1.now) × (length r.1.now < length tokens.now))
+        (λ e. OrNoMemory e
+        ((t : sheets.NodeTest) (after : List path.Token)
+        → p.NodeTestAt (in_scope scope.now) (tokens_of tokens.now) t after → ⊥)) }
 {
     if let Some(rest) = after_mark(tokens, Mark::Star) {
         return Ok((NodeTest::Any, rest));
@@ -94,7 +113,12 @@ fn node_test_at<'a, 'b, 't>(
     scope: &Scope<'_, 'b>,
     tokens: &'a [Token<'t>],
 ) -> Result<(NodeTest<'b>, &'a [Token<'t>]), PathFault>
-    ensures { MatchResult result (λ r. p.NodeTestAt (in_scope scope.now) (tokens_of tokens.now) (seen.node_test r.0) (tokens_of r.1.now) × (length r.1.now < length tokens.now)) (λ e. OrNoMemory e ((t : sheets.NodeTest) (after : List path.Token) → p.NodeTestAt (in_scope scope.now) (tokens_of tokens.now) t after → ⊥)) }
+    ensures { MatchResult result
+        (λ r. p.NodeTestAt (in_scope scope.now) (tokens_of tokens.now) (seen.node_test r.0)
+        (tokens_of r.1.now) × (length r.1.now < length tokens.now))
+        (λ e. OrNoMemory e
+        ((t : sheets.NodeTest) (after : List path.Token)
+        → p.NodeTestAt (in_scope scope.now) (tokens_of tokens.now) t after → ⊥)) }
 {
     if let Some(rest) = after_call(tokens, "text") {
         return Ok((NodeTest::Text, rest));
@@ -111,7 +135,12 @@ pub(crate) fn child_test<'a, 'b, 't>(
     scope: &Scope<'_, 'b>,
     tokens: &'a [Token<'t>],
 ) -> Result<(NodeTest<'b>, &'a [Token<'t>]), PathFault>
-    ensures { MatchResult result (λ r. p.ChildAt (in_scope scope.now) (tokens_of tokens.now) (seen.node_test r.0) (tokens_of r.1.now) × (length r.1.now < length tokens.now)) (λ e. OrNoMemory e ((t : sheets.NodeTest) (after : List path.Token) → p.ChildAt (in_scope scope.now) (tokens_of tokens.now) t after → ⊥)) }
+    ensures { MatchResult result
+        (λ r. p.ChildAt (in_scope scope.now) (tokens_of tokens.now) (seen.node_test r.0)
+        (tokens_of r.1.now) × (length r.1.now < length tokens.now))
+        (λ e. OrNoMemory e
+        ((t : sheets.NodeTest) (after : List path.Token)
+        → p.ChildAt (in_scope scope.now) (tokens_of tokens.now) t after → ⊥)) }
 {
     match after_axis(tokens, "child") {
         Some(rest) => node_test_at(arena, scope, rest),
@@ -124,7 +153,10 @@ fn after_attribute_test<'a, 't>(
     scope: &Scope<'_, '_>,
     tokens: &'a [Token<'t>],
 ) -> Option<&'a [Token<'t>]>
-    ensures { MatchOption result ((r : List path.Token) → p.AttributeTestAt (in_scope scope.now) (tokens_of tokens.now) r → ⊥) (λ rest. p.AttributeTestAt (in_scope scope.now) (tokens_of tokens.now) (tokens_of rest.now)) }
+    ensures { MatchOption result
+        ((r : List path.Token) → p.AttributeTestAt (in_scope scope.now) (tokens_of tokens.now) r
+        → ⊥) (λ rest. p.AttributeTestAt (in_scope scope.now) (tokens_of tokens.now)
+        (tokens_of rest.now)) }
 {
     if let Some(rest) = after_mark(tokens, Mark::Star) {
         return Some(rest);
@@ -152,7 +184,9 @@ pub(crate) fn after_attribute<'a, 't>(
     scope: &Scope<'_, '_>,
     tokens: &'a [Token<'t>],
 ) -> Option<&'a [Token<'t>]>
-    ensures { MatchOption result ((r : List path.Token) → p.AttributeAt (in_scope scope.now) (tokens_of tokens.now) r → ⊥) (λ rest. p.AttributeAt (in_scope scope.now) (tokens_of tokens.now) (tokens_of rest.now)) }
+    ensures { MatchOption result
+        ((r : List path.Token) → p.AttributeAt (in_scope scope.now) (tokens_of tokens.now) r → ⊥)
+        (λ rest. p.AttributeAt (in_scope scope.now) (tokens_of tokens.now) (tokens_of rest.now)) }
 {
     if let Some(rest) = after_mark(tokens, Mark::At) {
         return after_attribute_test(scope, rest);
@@ -165,7 +199,9 @@ pub(crate) fn after_attribute<'a, 't>(
 
 /// What follows `comment()` or `processing-instruction()`.
 pub(crate) fn after_other_node<'a, 't>(tokens: &'a [Token<'t>]) -> Option<&'a [Token<'t>]>
-    ensures { MatchOption result ((r : List path.Token) → p.OtherNodeAt (tokens_of tokens.now) r → ⊥) (λ rest. p.OtherNodeAt (tokens_of tokens.now) (tokens_of rest.now)) }
+    ensures { MatchOption result
+        ((r : List path.Token) → p.OtherNodeAt (tokens_of tokens.now) r → ⊥)
+        (λ rest. p.OtherNodeAt (tokens_of tokens.now) (tokens_of rest.now)) }
 {
     match after_call(tokens, "comment") {
         Some(rest) => Some(rest),

@@ -57,7 +57,9 @@ fn priority_of(from_root: bool, steps: &[Step<'_>], written: Form) -> i64
 
 /// These steps as an alternative, from the root or relative, unless it is dropped.
 fn kept<'b>(from_root: bool, steps: &'b [Step<'b>], written: Form) -> Option<Alt<'b>>
-    ensures { kept_alternative result ≡ p.unless_dropped (form written) (seen.steps steps.now) (priority_from from_root (form written) (seen.steps steps.now)) }
+    ensures { kept_alternative result
+        ≡ p.unless_dropped (form written) (seen.steps steps.now)
+        (priority_from from_root (form written) (seen.steps steps.now)) }
 {
     match written {
         Form::Dropped => None,
@@ -70,14 +72,16 @@ fn kept<'b>(from_root: bool, steps: &'b [Step<'b>], written: Form) -> Option<Alt
 
 /// Whether an alternative may end here.
 fn ends_alternative(tokens: &[Token<'_>]) -> bool
-    ensures { MatchBool result (p.EndsAlternative (tokens_of tokens.now)) (p.EndsAlternative (tokens_of tokens.now) → ⊥) }
+    ensures { MatchBool result (p.EndsAlternative (tokens_of tokens.now))
+        (p.EndsAlternative (tokens_of tokens.now) → ⊥) }
 {
     tokens.is_empty() || begins_with(tokens, Mark::Bar)
 }
 
 /// Whether an alternative is the root alone, by whether its first step is deep and by what follows.
 fn is_root(deep: bool, tokens: &[Token<'_>]) -> bool
-    ensures { MatchBool result ((deep ≡ false) × p.EndsAlternative (tokens_of tokens.now)) (deep ≡ false → p.EndsAlternative (tokens_of tokens.now) → ⊥) }
+    ensures { MatchBool result ((deep ≡ false) × p.EndsAlternative (tokens_of tokens.now))
+        (deep ≡ false → p.EndsAlternative (tokens_of tokens.now) → ⊥) }
 {
     !deep && ends_alternative(tokens)
 }
@@ -101,7 +105,12 @@ fn alternative<'a, 'b, 't>(
     scope: &Scope<'_, 'b>,
     tokens: &'a [Token<'t>],
 ) -> Result<(Option<Alt<'b>>, &'a [Token<'t>]), PathFault>
-    ensures { MatchResult result (λ r. p.PatternAlternativeAt (in_scope scope.now) (tokens_of tokens.now) (kept_alternative r.0) (tokens_of r.1.now) × (length r.1.now < length tokens.now)) (λ e. OrNoMemory e ((xs : List p.Alternative) (after : List path.Token) → p.PatternAlternativeAt (in_scope scope.now) (tokens_of tokens.now) xs after → ⊥)) }
+    ensures { MatchResult result
+        (λ r. p.PatternAlternativeAt (in_scope scope.now) (tokens_of tokens.now)
+        (kept_alternative r.0) (tokens_of r.1.now) × (length r.1.now < length tokens.now))
+        (λ e. OrNoMemory e
+        ((xs : List p.Alternative) (after : List path.Token)
+        → p.PatternAlternativeAt (in_scope scope.now) (tokens_of tokens.now) xs after → ⊥)) }
 {
     if let Some(rest) = after_other_node(tokens) {
         return Ok((None, rest));
@@ -127,7 +136,8 @@ fn keep<'b>(
     alternative: Option<Alt<'b>>,
     tokens: &[Token<'_>],
 ) -> Result<(), PathFault>
-    ensures kept { IfOk result (λ _. map see.alternative alternatives.new.items ≡ map see.alternative alternatives.old.items ++ kept_alternative alternative.entry) }
+    ensures kept { IfOk result (λ _. map see.alternative alternatives.new.items
+        ≡ map see.alternative alternatives.old.items ++ kept_alternative alternative.entry) }
     ensures memory { IfErr result (λ e. e ≡ PathFault.NoMemory) }
 {
     let Some(alternative) = alternative else {
@@ -144,8 +154,11 @@ pub(crate) fn pattern<'b>(
     scope: &Scope<'_, 'b>,
     tokens: &[Token<'_>],
 ) -> Result<&'b [Alt<'b>], PathFault>
-    ensures ok { IfOk result (λ r. p.PatternAt (in_scope scope.now) (tokens_of tokens.now) (map see.alternative r.now)) }
-    ensures no { IfErr result (λ e. OrNoMemory e ((xs : List p.Alternative) → p.PatternAt (in_scope scope.now) (tokens_of tokens.now) xs → ⊥)) }
+    ensures ok { IfOk result (λ r. p.PatternAt (in_scope scope.now) (tokens_of tokens.now)
+        (map see.alternative r.now)) }
+    ensures no { IfErr result (λ e. OrNoMemory e
+        ((xs : List p.Alternative) → p.PatternAt (in_scope scope.now) (tokens_of tokens.now) xs
+        → ⊥)) }
 {
     let mut found = Vec::new(arena);
     let mut rest = tokens.split_at(0).1;

@@ -31,7 +31,12 @@ fn step<'a, 'b, 't>(
     tokens: &'a [Token<'t>],
     deep: bool,
 ) -> Result<(Step<'b>, bool, &'a [Token<'t>]), PathFault>
-    ensures { MatchResult result (λ r. IsStepAt (in_scope scope.now) deep (tokens_of tokens.now) (seen.steps (r.0 ∷ [])) r.1 (tokens_of r.2.now) × (length r.2.now < length tokens.now)) (λ e. OrNoMemory e ((ss : sheets.Steps) (lone : Bool) (after : List path.Token) → IsStepAt (in_scope scope.now) deep (tokens_of tokens.now) ss lone after → ⊥)) }
+    ensures { MatchResult result
+        (λ r. IsStepAt (in_scope scope.now) deep (tokens_of tokens.now) (seen.steps (r.0 ∷ [])) r.1
+        (tokens_of r.2.now) × (length r.2.now < length tokens.now))
+        (λ e. OrNoMemory e
+        ((ss : sheets.Steps) (lone : Bool) (after : List path.Token)
+        → IsStepAt (in_scope scope.now) deep (tokens_of tokens.now) ss lone after → ⊥)) }
 {
     let (test, mut rest) = child_test(arena, scope, tokens)?;
     let mut found = Vec::new(arena);
@@ -57,7 +62,12 @@ pub(crate) fn steps<'a, 'b, 't>(
     tokens: &'a [Token<'t>],
     is_deep: bool,
 ) -> Result<(&'b [Step<'b>], Form, &'a [Token<'t>]), PathFault>
-    ensures { MatchResult result (λ r. p.StepsAt (in_scope scope.now) is_deep (tokens_of tokens.now) (seen.steps r.0.now) (form r.1) (tokens_of r.2.now) × (length r.2.now < length tokens.now)) (λ e. OrNoMemory e ((ss : sheets.Steps) (f : p.Form) (after : List path.Token) → p.StepsAt (in_scope scope.now) is_deep (tokens_of tokens.now) ss f after → ⊥)) }
+    ensures { MatchResult result
+        (λ r. p.StepsAt (in_scope scope.now) is_deep (tokens_of tokens.now) (seen.steps r.0.now)
+        (form r.1) (tokens_of r.2.now) × (length r.2.now < length tokens.now))
+        (λ e. OrNoMemory e
+        ((ss : sheets.Steps) (f : p.Form) (after : List path.Token)
+        → p.StepsAt (in_scope scope.now) is_deep (tokens_of tokens.now) ss f after → ⊥)) }
 {
     let mut found = Vec::new(arena);
     let mut longer = false;
@@ -85,7 +95,12 @@ pub(crate) fn alternative<'a, 'b, 't>(
     scope: &Scope<'_, 'b>,
     tokens: &'a [Token<'t>],
 ) -> Result<(&'b [Step<'b>], Form, &'a [Token<'t>]), PathFault>
-    ensures { MatchResult result (λ r. p.AlternativeAt (in_scope scope.now) (tokens_of tokens.now) (seen.steps r.0.now) (form r.1) (tokens_of r.2.now) × (length r.2.now < length tokens.now)) (λ e. OrNoMemory e ((ss : sheets.Steps) (f : p.Form) (after : List path.Token) → p.AlternativeAt (in_scope scope.now) (tokens_of tokens.now) ss f after → ⊥)) }
+    ensures { MatchResult result
+        (λ r. p.AlternativeAt (in_scope scope.now) (tokens_of tokens.now) (seen.steps r.0.now)
+        (form r.1) (tokens_of r.2.now) × (length r.2.now < length tokens.now))
+        (λ e. OrNoMemory e
+        ((ss : sheets.Steps) (f : p.Form) (after : List path.Token)
+        → p.AlternativeAt (in_scope scope.now) (tokens_of tokens.now) ss f after → ⊥)) }
 {
     if let Some(rest) = after_other_node(tokens) {
         return Ok((&[], Form::Dropped, rest));
@@ -106,7 +121,12 @@ pub(crate) fn select<'a, 'b, 't>(
     scope: &Scope<'_, 'b>,
     tokens: &'a [Token<'t>],
 ) -> Result<(Path<'b>, bool, &'a [Token<'t>]), PathFault>
-    ensures { MatchResult result (λ r. p.SelectAt (in_scope scope.now) (tokens_of tokens.now) (seen.path r.0) r.1 (tokens_of r.2.now) × (length r.2.now < length tokens.now)) (λ e. OrNoMemory e ((q : sheets.Path) (drops : Bool) (after : List path.Token) → p.SelectAt (in_scope scope.now) (tokens_of tokens.now) q drops after → ⊥)) }
+    ensures { MatchResult result
+        (λ r. p.SelectAt (in_scope scope.now) (tokens_of tokens.now) (seen.path r.0) r.1
+        (tokens_of r.2.now) × (length r.2.now < length tokens.now))
+        (λ e. OrNoMemory e
+        ((q : sheets.Path) (drops : Bool) (after : List path.Token)
+        → p.SelectAt (in_scope scope.now) (tokens_of tokens.now) q drops after → ⊥)) }
 {
     let mut found = Vec::new(arena);
     let mut drops = false;
@@ -129,7 +149,12 @@ fn primary<'a, 'b, 't>(
     scope: &Scope<'_, 'b>,
     tokens: &'a [Token<'t>],
 ) -> Result<(Test<'b>, &'a [Token<'t>]), PathFault>
-    ensures { MatchResult result (λ r. p.PrimaryAt (in_scope scope.now) (tokens_of tokens.now) (seen.test r.0) (tokens_of r.1.now) × (length r.1.now < length tokens.now)) (λ e. OrNoMemory e ((t : sheets.Test) (after : List path.Token) → p.PrimaryAt (in_scope scope.now) (tokens_of tokens.now) t after → ⊥)) }
+    ensures { MatchResult result
+        (λ r. p.PrimaryAt (in_scope scope.now) (tokens_of tokens.now) (seen.test r.0)
+        (tokens_of r.1.now) × (length r.1.now < length tokens.now))
+        (λ e. OrNoMemory e
+        ((t : sheets.Test) (after : List path.Token)
+        → p.PrimaryAt (in_scope scope.now) (tokens_of tokens.now) t after → ⊥)) }
 {
     if let Some(rest) = after_call(tokens, "true") {
         return Ok((Test::True, rest));
@@ -159,7 +184,12 @@ fn closed_test<'a, 'b, 't>(
     tokens: &'a [Token<'t>],
     close: Mark,
 ) -> Result<(Test<'b>, &'a [Token<'t>]), PathFault>
-    ensures { MatchResult result (λ r. ClosedAt (in_scope scope.now) (tokens_of tokens.now) (mark close) (seen.test r.0) (tokens_of r.1.now) × (length r.1.now < length tokens.now)) (λ e. OrNoMemory e ((t : sheets.Test) (after : List path.Token) → ClosedAt (in_scope scope.now) (tokens_of tokens.now) (mark close) t after → ⊥)) }
+    ensures { MatchResult result
+        (λ r. ClosedAt (in_scope scope.now) (tokens_of tokens.now) (mark close) (seen.test r.0)
+        (tokens_of r.1.now) × (length r.1.now < length tokens.now))
+        (λ e. OrNoMemory e
+        ((t : sheets.Test) (after : List path.Token)
+        → ClosedAt (in_scope scope.now) (tokens_of tokens.now) (mark close) t after → ⊥)) }
 {
     let (tests, after) = any_tests(arena, scope, tokens)?;
     let Some(rest) = after_mark(after, close) else {
@@ -175,7 +205,12 @@ fn all_tests<'a, 'b, 't>(
     scope: &Scope<'_, 'b>,
     tokens: &'a [Token<'t>],
 ) -> Result<(&'b [Test<'b>], &'a [Token<'t>]), PathFault>
-    ensures { MatchResult result (λ r. p.AndAt (in_scope scope.now) (tokens_of tokens.now) (seen.tests r.0.now) (tokens_of r.1.now) × (length r.1.now < length tokens.now)) (λ e. OrNoMemory e ((us : sheets.Tests) (after : List path.Token) → p.AndAt (in_scope scope.now) (tokens_of tokens.now) us after → ⊥)) }
+    ensures { MatchResult result
+        (λ r. p.AndAt (in_scope scope.now) (tokens_of tokens.now) (seen.tests r.0.now)
+        (tokens_of r.1.now) × (length r.1.now < length tokens.now))
+        (λ e. OrNoMemory e
+        ((us : sheets.Tests) (after : List path.Token)
+        → p.AndAt (in_scope scope.now) (tokens_of tokens.now) us after → ⊥)) }
 {
     let mut found = Vec::new(arena);
     let mut rest = tokens.split_at(0).1;
@@ -196,7 +231,12 @@ pub(crate) fn any_tests<'a, 'b, 't>(
     scope: &Scope<'_, 'b>,
     tokens: &'a [Token<'t>],
 ) -> Result<(&'b [Test<'b>], &'a [Token<'t>]), PathFault>
-    ensures { MatchResult result (λ r. p.OrAt (in_scope scope.now) (tokens_of tokens.now) (seen.tests r.0.now) (tokens_of r.1.now) × (length r.1.now < length tokens.now)) (λ e. OrNoMemory e ((us : sheets.Tests) (after : List path.Token) → p.OrAt (in_scope scope.now) (tokens_of tokens.now) us after → ⊥)) }
+    ensures { MatchResult result
+        (λ r. p.OrAt (in_scope scope.now) (tokens_of tokens.now) (seen.tests r.0.now)
+        (tokens_of r.1.now) × (length r.1.now < length tokens.now))
+        (λ e. OrNoMemory e
+        ((us : sheets.Tests) (after : List path.Token)
+        → p.OrAt (in_scope scope.now) (tokens_of tokens.now) us after → ⊥)) }
 {
     let mut found = Vec::new(arena);
     let mut rest = tokens.split_at(0).1;

@@ -40,7 +40,8 @@ impl<'s, 'b> Scope<'s, 'b> {
 
     /// The namespace name to which a prefix is bound.
     pub(crate) fn uri_of(&self, prefix: &str) -> Option<&'b str>
-        ensures { MatchOption result (xml.uri_of (in_scope self.now) prefix.now ≡ None) (λ uri. xml.uri_of (in_scope self.now) prefix.now ≡ Some uri.now) }
+        ensures { MatchOption result (xml.uri_of (in_scope self.now) prefix.now ≡ None)
+            (λ uri. xml.uri_of (in_scope self.now) prefix.now ≡ Some uri.now) }
     {
         match self.known.get(prefix) {
             Some(found) => *found,

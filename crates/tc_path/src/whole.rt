@@ -41,8 +41,11 @@ pub(crate) fn whole_select<'b>(
     scope: &[Binding<'b>],
     tokens: &[Token<'_>],
 ) -> Result<(Path<'b>, bool), PathFault>
-    ensures ok { IfOk result (λ r. p.SelectAt (map seen.bound scope.now) (tokens_of tokens.now) (seen.path r.0) r.1 []) }
-    ensures no { IfErr result (λ e. OrNoMemory e ((q : sheets.Path) (drops : Bool) → p.SelectAt (map seen.bound scope.now) (tokens_of tokens.now) q drops [] → ⊥)) }
+    ensures ok { IfOk result (λ r. p.SelectAt (map seen.bound scope.now) (tokens_of tokens.now)
+        (seen.path r.0) r.1 []) }
+    ensures no { IfErr result (λ e. OrNoMemory e
+        ((q : sheets.Path) (drops : Bool)
+        → p.SelectAt (map seen.bound scope.now) (tokens_of tokens.now) q drops [] → ⊥)) }
 {
     let known = Scope::of(arena, scope, tokens)?;
     let (path, drops, rest) = select(arena, known, tokens)?;
@@ -55,7 +58,8 @@ pub(crate) fn whole_select<'b>(
 
 /// Whether the tokens are a `.` alone.
 fn is_dot(tokens: &[Token<'_>]) -> bool
-    ensures { MatchBool result (tokens_of tokens.now ≡ path.mark path.dot ∷ []) (tokens_of tokens.now ≡ path.mark path.dot ∷ [] → ⊥) }
+    ensures { MatchBool result (tokens_of tokens.now ≡ path.mark path.dot ∷ [])
+        (tokens_of tokens.now ≡ path.mark path.dot ∷ [] → ⊥) }
 {
     match after_mark(tokens, Mark::Dot) {
         Some(rest) => rest.is_empty(),
@@ -69,8 +73,11 @@ pub(crate) fn whole_value<'b>(
     scope: &[Binding<'b>],
     tokens: &[Token<'_>],
 ) -> Result<Instr<'b>, PathFault>
-    ensures ok { IfOk result (λ r. texts.IsValue (map seen.bound scope.now) (seen.instruction r sheets.no_instruction) (tokens_of tokens.now)) }
-    ensures no { IfErr result (λ e. OrNoMemory e ((v : sheets.Body) → texts.IsValue (map seen.bound scope.now) v (tokens_of tokens.now) → ⊥)) }
+    ensures ok { IfOk result (λ r. texts.IsValue (map seen.bound scope.now)
+        (seen.instruction r sheets.no_instruction) (tokens_of tokens.now)) }
+    ensures no { IfErr result (λ e. OrNoMemory e
+        ((v : sheets.Body) → texts.IsValue (map seen.bound scope.now) v (tokens_of tokens.now)
+        → ⊥)) }
 {
     if is_dot(tokens) {
         return Ok(Instr::ValueOfSelf);
@@ -88,8 +95,11 @@ pub(crate) fn whole_test<'b>(
     scope: &[Binding<'b>],
     tokens: &[Token<'_>],
 ) -> Result<Test<'b>, PathFault>
-    ensures ok { IfOk result (λ r. texts.IsTest (map seen.bound scope.now) (seen.test r) (tokens_of tokens.now)) }
-    ensures no { IfErr result (λ e. OrNoMemory e ((t : sheets.Test) → texts.IsTest (map seen.bound scope.now) t (tokens_of tokens.now) → ⊥)) }
+    ensures ok { IfOk result (λ r. texts.IsTest (map seen.bound scope.now) (seen.test r)
+        (tokens_of tokens.now)) }
+    ensures no { IfErr result (λ e. OrNoMemory e
+        ((t : sheets.Test) → texts.IsTest (map seen.bound scope.now) t (tokens_of tokens.now)
+        → ⊥)) }
 {
     let known = Scope::of(arena, scope, tokens)?;
     let (tests, rest) = any_tests(arena, known, tokens)?;
@@ -106,8 +116,11 @@ pub(crate) fn whole_pattern<'b>(
     scope: &[Binding<'b>],
     tokens: &[Token<'_>],
 ) -> Result<&'b [Alt<'b>], PathFault>
-    ensures ok { IfOk result (λ r. p.PatternAt (map seen.bound scope.now) (tokens_of tokens.now) (map see.alternative r.now)) }
-    ensures no { IfErr result (λ e. OrNoMemory e ((xs : List p.Alternative) → p.PatternAt (map seen.bound scope.now) (tokens_of tokens.now) xs → ⊥)) }
+    ensures ok { IfOk result (λ r. p.PatternAt (map seen.bound scope.now) (tokens_of tokens.now)
+        (map see.alternative r.now)) }
+    ensures no { IfErr result (λ e. OrNoMemory e
+        ((xs : List p.Alternative)
+        → p.PatternAt (map seen.bound scope.now) (tokens_of tokens.now) xs → ⊥)) }
 {
     let known = Scope::of(arena, scope, tokens)?;
     pattern(arena, known, tokens)
@@ -119,9 +132,14 @@ pub(crate) fn whole_attributes<'b>(
     scope: &[Binding<'b>],
     tokens: &[Token<'_>],
 ) -> Result<bool, PathFault>
-    ensures ok { IfOk result (λ all. MatchBool all (p.AttributesAt (map seen.bound scope.now) (tokens_of tokens.now) []) (p.AttributesAt (map seen.bound scope.now) (tokens_of tokens.now) [] → ⊥)) }
-    ensures select { IfOk result (λ _. (q : sheets.Path) × (drops : Bool) × p.SelectAt (map seen.bound scope.now) (tokens_of tokens.now) q drops []) }
-    ensures no { IfErr result (λ e. OrNoMemory e ((q : sheets.Path) (drops : Bool) → p.SelectAt (map seen.bound scope.now) (tokens_of tokens.now) q drops [] → ⊥)) }
+    ensures ok { IfOk result (λ all. MatchBool all
+        (p.AttributesAt (map seen.bound scope.now) (tokens_of tokens.now) [])
+        (p.AttributesAt (map seen.bound scope.now) (tokens_of tokens.now) [] → ⊥)) }
+    ensures select { IfOk result (λ _. (q : sheets.Path) × (drops : Bool)
+        × p.SelectAt (map seen.bound scope.now) (tokens_of tokens.now) q drops []) }
+    ensures no { IfErr result (λ e. OrNoMemory e
+        ((q : sheets.Path) (drops : Bool)
+        → p.SelectAt (map seen.bound scope.now) (tokens_of tokens.now) q drops [] → ⊥)) }
 {
     let known = Scope::of(arena, scope, tokens)?;
     are_attributes(arena, known, tokens)

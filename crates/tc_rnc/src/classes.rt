@@ -57,8 +57,11 @@ impl<'b> Parser<'b> {
         tokens: &'s [Token<'t>],
         deepest: u32,
     ) -> Result<(SClass<'b>, &'s [Token<'t>]), RncFault>
-        ensures ok { IfOk result (λ r. names.ClassAt (scope_of self.now.scope) deepest (seen.tokens tokens.now) (seen.class r.0) (seen.tokens r.1.now)) }
-        ensures no { IfErr result (Refuses (stops.ClassStops (seen.end self.now.end) (scope_of self.now.scope) deepest (seen.tokens tokens.now))) }
+        ensures ok { IfOk result (λ r. names.ClassAt (scope_of self.now.scope) deepest
+            (seen.tokens tokens.now) (seen.class r.0) (seen.tokens r.1.now)) }
+        ensures no { IfErr result (Refuses
+            (stops.ClassStops (seen.end self.now.end) (scope_of self.now.scope) deepest
+            (seen.tokens tokens.now))) }
     {
         let (first, rest) = self.simple_name_class(tokens, deepest)?;
         let Some(behind) = after_mark(rest, '|') else {
@@ -76,8 +79,13 @@ impl<'b> Parser<'b> {
         tokens: &'s [Token<'t>],
         deepest: u32,
     ) -> Result<(&'b [SClass<'b>], &'s [Token<'t>]), RncFault>
-        ensures ok { IfOk result (λ r. (cs : trees.SyntaxClasses) × (seen.classes r.0.now ≡ trees.class (seen.class first.entry) cs) × names.ClassesAt (scope_of self.now.scope) deepest (seen.tokens tokens.now) cs (seen.tokens r.1.now)) }
-        ensures no { IfErr result (Refuses (stops.ClassStops (seen.end self.now.end) (scope_of self.now.scope) deepest (seen.tokens tokens.now))) }
+        ensures ok { IfOk result (λ r. (cs : trees.SyntaxClasses)
+            × (seen.classes r.0.now ≡ trees.class (seen.class first.entry) cs)
+            × names.ClassesAt (scope_of self.now.scope) deepest (seen.tokens tokens.now) cs
+            (seen.tokens r.1.now)) }
+        ensures no { IfErr result (Refuses
+            (stops.ClassStops (seen.end self.now.end) (scope_of self.now.scope) deepest
+            (seen.tokens tokens.now))) }
     {
         let mut all = Vec::from_slice(self.arena, &[first])?;
         let mut rest = tokens.split_at(0).1;
@@ -111,8 +119,11 @@ impl<'b> Parser<'b> {
         tokens: &'s [Token<'t>],
         deepest: u32,
     ) -> Result<(SClass<'b>, &'s [Token<'t>]), RncFault>
-        ensures ok { IfOk result (λ r. names.SimpleAt (scope_of self.now.scope) deepest (seen.tokens tokens.now) (seen.class r.0) (seen.tokens r.1.now)) }
-        ensures no { IfErr result (Refuses (stops.SimpleStops (seen.end self.now.end) (scope_of self.now.scope) deepest (seen.tokens tokens.now))) }
+        ensures ok { IfOk result (λ r. names.SimpleAt (scope_of self.now.scope) deepest
+            (seen.tokens tokens.now) (seen.class r.0) (seen.tokens r.1.now)) }
+        ensures no { IfErr result (Refuses
+            (stops.SimpleStops (seen.end self.now.end) (scope_of self.now.scope) deepest
+            (seen.tokens tokens.now))) }
     {
         let (wildcards, rest) = all_excepting(self.arena, &self.scope, tokens)?;
         let (excepted, after) = self.innermost_name_class(rest, deepest)?;
@@ -128,8 +139,11 @@ impl<'b> Parser<'b> {
         deepest: u32,
     ) -> Result<(SClass<'b>, &'s [Token<'t>]), RncFault>
         requires { ExceptsNothing (scope_of self.now.scope) (seen.tokens tokens.now) }
-        ensures ok { IfOk result (λ r. names.SimpleAt (scope_of self.now.scope) deepest (seen.tokens tokens.now) (seen.class r.0) (seen.tokens r.1.now)) }
-        ensures no { IfErr result (Refuses (stops.SimpleStops (seen.end self.now.end) (scope_of self.now.scope) deepest (seen.tokens tokens.now))) }
+        ensures ok { IfOk result (λ r. names.SimpleAt (scope_of self.now.scope) deepest
+            (seen.tokens tokens.now) (seen.class r.0) (seen.tokens r.1.now)) }
+        ensures no { IfErr result (Refuses
+            (stops.SimpleStops (seen.end self.now.end) (scope_of self.now.scope) deepest
+            (seen.tokens tokens.now))) }
     {
         if let Some((wildcard, rest)) = wildcard_at(&self.scope, tokens) {
             return Ok((wildcard.without(&[]), rest));
@@ -156,8 +170,11 @@ impl<'b> Parser<'b> {
         tokens: &'s [Token<'t>],
         deepest: u32,
     ) -> Result<(SClass<'b>, &'s [Token<'t>]), RncFault>
-        ensures ok { IfOk result (λ r. reading.ClosedClassAt (scope_of self.now.scope) deepest (seen.tokens tokens.now) (seen.class r.0) (seen.tokens r.1.now)) }
-        ensures no { IfErr result (Refuses (parts.ClosedClassStops (seen.end self.now.end) (scope_of self.now.scope) deepest (seen.tokens tokens.now))) }
+        ensures ok { IfOk result (λ r. reading.ClosedClassAt (scope_of self.now.scope) deepest
+            (seen.tokens tokens.now) (seen.class r.0) (seen.tokens r.1.now)) }
+        ensures no { IfErr result (Refuses
+            (parts.ClosedClassStops (seen.end self.now.end) (scope_of self.now.scope) deepest
+            (seen.tokens tokens.now))) }
     {
         let (inner, closing) = self.name_class(tokens, deepest)?;
         let Some(after) = after_mark(closing, ')') else {

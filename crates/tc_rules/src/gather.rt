@@ -47,7 +47,8 @@ fn all_children<'b>() -> &'b Path<'b>
 }
 
 fn usages_of_rules<'b>(found: &mut Vec<Usage<'b>>, rules: &'b [Rule<'b>]) -> Result<(), NoMemory>
-    ensures { OnOk result (usages found.new.items ≡ usages found.old.items ++ usages_of_rules (map see.rule rules.now)) }
+    ensures { OnOk result (usages found.new.items ≡ usages found.old.items
+        ++ usages_of_rules (map see.rule rules.now)) }
 {
     for rule in rules {
         add_usage(found, Usage::Pattern(&rule.pattern))?;
@@ -60,7 +61,8 @@ fn usages_of_bodies<'b>(
     found: &mut Vec<Usage<'b>>,
     bodies: &'b [&'b [Instr<'b>]],
 ) -> Result<(), NoMemory>
-    ensures { OnOk result (usages found.new.items ≡ usages found.old.items ++ flat_map usages_in (map (λ b. see.body b.now) bodies.now)) }
+    ensures { OnOk result (usages found.new.items ≡ usages found.old.items
+        ++ flat_map usages_in (map (λ b. see.body b.now) bodies.now)) }
 {
     for body in bodies {
         usages_in_body(found, body)?;
@@ -83,9 +85,11 @@ pub(crate) fn all_predicates<'b>(
     alloc: Global,
     used: &[Usage<'b>],
 ) -> Result<Vec<&'b Test<'b>>, RulesFault>
-    ensures predicates { IfOk result (λ v. (x : s.Sheet) → usages used.now ≡ usages_of x → predicates v.items ≡ n.predicates_of x) }
+    ensures predicates { IfOk result (λ v. (x : s.Sheet) → usages used.now ≡ usages_of x
+        → predicates v.items ≡ n.predicates_of x) }
     ensures few { IfOk result (λ v. length v.items ≤ 6) }
-    ensures cause { IfErr result (λ e. (x : s.Sheet) → usages used.now ≡ usages_of x → IsPredicatesCause (n.predicates_of x) e) }
+    ensures cause { IfErr result (λ e. (x : s.Sheet) → usages used.now ≡ usages_of x
+        → IsPredicatesCause (n.predicates_of x) e) }
 {
     let mut found = Vec::new(alloc);
     for usage in used {
@@ -96,7 +100,8 @@ pub(crate) fn all_predicates<'b>(
 
 /// The moves to all children, one in each mode.
 fn built_in_moves(found: &mut Vec<Move<'_>>, modes: u32) -> Result<(), NoMemory>
-    ensures { OnOk result ((k : ℕ) → moves k found.new.items ≡ moves k found.old.items ++ built_in_moves modes) }
+    ensures { OnOk result ((k : ℕ) → moves k found.new.items ≡ moves k found.old.items
+        ++ built_in_moves modes) }
 {
     for mode in 0..modes {
         let path = all_children();
@@ -107,7 +112,8 @@ fn built_in_moves(found: &mut Vec<Move<'_>>, modes: u32) -> Result<(), NoMemory>
 }
 
 fn moves_of_usages<'b>(found: &mut Vec<Move<'b>>, used: &[Usage<'b>]) -> Result<(), NoMemory>
-    ensures { OnOk result ((k : ℕ) → moves k found.new.items ≡ moves k found.old.items ++ flat_map (moves_in_usage k) (usages used.now)) }
+    ensures { OnOk result ((k : ℕ) → moves k found.new.items ≡ moves k found.old.items
+        ++ flat_map (moves_in_usage k) (usages used.now)) }
 {
     for usage in used {
         moves_in_usage(found, usage)?;
@@ -125,7 +131,8 @@ pub(crate) fn all_moves<'b>(
 ) -> Result<Vec<Move<'b>>, RulesFault>
     requires sheet { IsSheet (see.sheet sheet.now) }
     requires used { usages used.now ≡ usages_of (see.sheet sheet.now) }
-    ensures moves { IfOk result (λ v. moves sheet.now.modes v.items ≡ n.moves_of (see.sheet sheet.now)) }
+    ensures moves { IfOk result (λ v. moves sheet.now.modes v.items
+        ≡ n.moves_of (see.sheet sheet.now)) }
     ensures jobs { IfOk result (λ v. AreJobs (see.sheet sheet.now) v.items) }
     ensures cause { IfErr result (λ e. IsPathsCause (paths (n.moves_of (see.sheet sheet.now))) e) }
 {
@@ -136,7 +143,8 @@ pub(crate) fn all_moves<'b>(
 }
 
 fn looks_of_usages<'b>(found: &mut Vec<&'b Path<'b>>, used: &[Usage<'b>]) -> Result<(), NoMemory>
-    ensures { OnOk result (looks found.new.items ≡ looks found.old.items ++ flat_map looks_in_usage (usages used.now)) }
+    ensures { OnOk result (looks found.new.items ≡ looks found.old.items
+        ++ flat_map looks_in_usage (usages used.now)) }
 {
     for usage in used {
         looks_in_usage(found, usage)?;
@@ -148,7 +156,8 @@ fn looks_of_tests<'b>(
     found: &mut Vec<&'b Path<'b>>,
     numbered: &[&'b Test<'b>],
 ) -> Result<(), NoMemory>
-    ensures { OnOk result (looks found.new.items ≡ looks found.old.items ++ flat_map n.looks_in_test (predicates numbered.now)) }
+    ensures { OnOk result (looks found.new.items ≡ looks found.old.items
+        ++ flat_map n.looks_in_test (predicates numbered.now)) }
 {
     for test in numbered {
         looks_in_test(found, test)?;
@@ -162,8 +171,10 @@ pub(crate) fn all_looks<'b>(
     used: &[Usage<'b>],
     numbered: &[&'b Test<'b>],
 ) -> Result<Vec<&'b Path<'b>>, RulesFault>
-    ensures looks { IfOk result (λ v. (x : s.Sheet) → usages used.now ≡ usages_of x → predicates numbered.now ≡ n.predicates_of x → looks v.items ≡ n.looks_of x) }
-    ensures cause { IfErr result (λ e. (x : s.Sheet) → usages used.now ≡ usages_of x → predicates numbered.now ≡ n.predicates_of x → IsPathsCause (n.looks_of x) e) }
+    ensures looks { IfOk result (λ v. (x : s.Sheet) → usages used.now ≡ usages_of x
+        → predicates numbered.now ≡ n.predicates_of x → looks v.items ≡ n.looks_of x) }
+    ensures cause { IfErr result (λ e. (x : s.Sheet) → usages used.now ≡ usages_of x
+        → predicates numbered.now ≡ n.predicates_of x → IsPathsCause (n.looks_of x) e) }
 {
     let mut found = Vec::new(alloc);
     looks_of_usages(&mut found, used)?;
@@ -176,7 +187,8 @@ pub(crate) fn paths_of_rules<'b>(
     alloc: Global,
     sheet: &Sheet<'b>,
 ) -> Result<Vec<&'b [Step<'b>]>, NoMemory>
-    ensures { IfOk result (λ v. see.alternatives v.items ≡ path_of_rules (map see.rule sheet.now.rules.now)) }
+    ensures { IfOk result (λ v. see.alternatives v.items
+        ≡ path_of_rules (map see.rule sheet.now.rules.now)) }
 {
     let mut path = Vec::new(alloc);
     for rule in sheet.rules {
@@ -202,7 +214,8 @@ pub(crate) fn names_of<'a>(
     arena: &'a Bump,
     alphabet: &Alphabet,
 ) -> Result<Vec<Name<'a>>, NoMemory>
-    ensures { IfOk result (λ v. map see.name v.items ≡ map (fresh_name alphabet.now) (numbers_below (symbol_count alphabet.now))) }
+    ensures { IfOk result (λ v. map see.name v.items
+        ≡ map (fresh_name alphabet.now) (numbers_below (symbol_count alphabet.now))) }
 {
     let mut names = Vec::new(alloc);
     for number in 0..alphabet.count() {
@@ -232,8 +245,10 @@ pub(crate) fn add_number(
 ) -> Result<(), NoMemory>
     requires { mode < length lists.old.items }
     ensures count { OnOk result (length lists.new.items ≡ length lists.old.items) }
-    ensures added { OnOk result (get_or (numbers lists.new.items) mode [] ≡ get_or (numbers lists.old.items) mode [] ++ number ∷ []) }
-    ensures others { OnOk result ((m : ℕ) → m ≢ mode → get_or (numbers lists.new.items) m [] ≡ get_or (numbers lists.old.items) m []) }
+    ensures added { OnOk result (get_or (numbers lists.new.items) mode []
+        ≡ get_or (numbers lists.old.items) mode [] ++ number ∷ []) }
+    ensures others { OnOk result ((m : ℕ) → m ≢ mode → get_or (numbers lists.new.items) m []
+        ≡ get_or (numbers lists.old.items) m []) }
 {
     let Ok(number) = u32::try_from(number) else {
         return Err(NoMemory);
@@ -246,7 +261,8 @@ pub(crate) fn add_number(
 pub(crate) fn modes_of_rules(alloc: Global, sheet: &Sheet<'_>) -> Result<Vec<Vec<u32>>, NoMemory>
     requires { IsSheet (see.sheet sheet.now) }
     ensures count { IfOk result (λ v. length v.items ≡ sheet.now.modes) }
-    ensures numbers { IfOk result (λ v. (m : ℕ) → m < sheet.now.modes → get_or (numbers v.items) m [] ≡ numbers_in_mode m 0 (map see.rule sheet.now.rules.now)) }
+    ensures numbers { IfOk result (λ v. (m : ℕ) → m < sheet.now.modes
+        → get_or (numbers v.items) m [] ≡ numbers_in_mode m 0 (map see.rule sheet.now.rules.now)) }
 {
     let mut lists = no_numbers(alloc, sheet.modes)?;
     for (number, rule) in sheet.rules.iter().enumerate() {
@@ -257,8 +273,10 @@ pub(crate) fn modes_of_rules(alloc: Global, sheet: &Sheet<'_>) -> Result<Vec<Vec
 
 /// Where a usage is that of a for-each, its body goes to its number.
 fn put_body<'b>(bodies: &mut Vec<&'b [Instr<'b>]>, usage: &Usage<'b>)
-    requires { AllByRecursion (λ x. x.number < length bodies.old.items) (eaches_in_usage (see_usage usage.now)) }
-    ensures { see_bodies bodies.new.items ≡ bodies_with (see_bodies bodies.old.items) (eaches_in_usage (see_usage usage.now)) }
+    requires { AllByRecursion (λ x. x.number < length bodies.old.items)
+        (eaches_in_usage (see_usage usage.now)) }
+    ensures { see_bodies bodies.new.items
+        ≡ bodies_with (see_bodies bodies.old.items) (eaches_in_usage (see_usage usage.now)) }
 {
     let Usage::Each(number, _, body) = usage else {
         return;
@@ -275,7 +293,8 @@ pub(crate) fn all_eaches<'b>(
     requires sheet { IsSheet (see.sheet sheet.now) }
     requires used { usages used.now ≡ usages_of (see.sheet sheet.now) }
     ensures count { IfOk result (λ v. length v.items ≡ sheet.now.eaches) }
-    ensures bodies { IfOk result (λ v. (f : ForEach) → Contains (eaches_of (see.sheet sheet.now)) f → slice_get (see_bodies v.items) f.number ≡ Some f.body) }
+    ensures bodies { IfOk result (λ v. (f : ForEach) → Contains (eaches_of (see.sheet sheet.now)) f
+        → slice_get (see_bodies v.items) f.number ≡ Some f.body) }
 {
     let none: &'b [Instr<'b>] = &[];
     let mut bodies = vec![in alloc; none; sheet.eaches as usize]?;

@@ -221,7 +221,9 @@ impl<'a, 'b> Source<'a, 'b> {
         marked: &[Row],
         state: &Row,
     ) -> Result<Vec<Row>, NoMemory>
-        ensures { IfOk result (λ w. AreAlike (seen.states w.items) (leads_by_class (see.alternatives path.now) (seen.state kind.now) (seen.states marked.now) (seen.state state.now))) }
+        ensures { IfOk result (λ w. AreAlike (seen.states w.items)
+            (leads_by_class (see.alternatives path.now) (seen.state kind.now)
+            (seen.states marked.now) (seen.state state.now))) }
     {
         let mut found = Vec::new(self.alloc);
         self.add_leads(&mut found, path, kind, marked, state)?;
@@ -241,9 +243,18 @@ impl<'a, 'b> Source<'a, 'b> {
     ) -> Result<(), GraphFault>
         requires number { number < length states.old.keys }
         requires few { length states.old.keys ≤ most }
-        ensures states { OnOk result ((x : State) → slice_get (seen.states states.old.keys) number ≡ Some x → seen.states states.new.keys ≡ put_all same_state (seen.states states.old.keys) (filter (counted counts) (leads_by (see.alternatives path.now) (seen.fits letters.now) x))) }
+        ensures states { OnOk result ((x : State) → slice_get (seen.states states.old.keys) number
+            ≡ Some x → seen.states states.new.keys
+            ≡ put_all same_state (seen.states states.old.keys)
+            (filter (counted counts)
+            (leads_by (see.alternatives path.now) (seen.fits letters.now) x))) }
         ensures few { OnOk result (length states.new.keys ≤ most) }
-        ensures many { IsErrOf result GraphFault.TooManyStates → (x : State) → slice_get (seen.states states.old.keys) number ≡ Some x → most < length (put_all same_state (seen.states states.old.keys) (filter (counted counts) (leads_by (see.alternatives path.now) (seen.fits letters.now) x))) }
+        ensures many { IsErrOf result GraphFault.TooManyStates → (x : State)
+            → slice_get (seen.states states.old.keys) number ≡ Some x
+            → most < length
+            (put_all same_state (seen.states states.old.keys)
+            (filter (counted counts)
+            (leads_by (see.alternatives path.now) (seen.fits letters.now) x))) }
     {
         let waits = some_item_waits(path, &states.as_slice()[number]);
         let mut stays = false;
@@ -274,9 +285,18 @@ impl<'a, 'b> Source<'a, 'b> {
     ) -> Result<(), GraphFault>
         requires from { from ≤ length states.old.keys }
         requires few { length states.old.keys ≤ most }
-        ensures states { OnOk result (seen.states states.new.keys ≡ put_all same_state (seen.states states.old.keys) (leads_of (counted counts) (leads_by (see.alternatives path.now) (seen.fits letters.now)) (drop from (seen.states states.old.keys)))) }
+        ensures states { OnOk result (seen.states states.new.keys
+            ≡ put_all same_state (seen.states states.old.keys)
+            (leads_of (counted counts)
+            (leads_by (see.alternatives path.now) (seen.fits letters.now))
+            (drop from (seen.states states.old.keys)))) }
         ensures few { OnOk result (length states.new.keys ≤ most) }
-        ensures many { IsErrOf result GraphFault.TooManyStates → most < length (put_all same_state (seen.states states.old.keys) (leads_of (counted counts) (leads_by (see.alternatives path.now) (seen.fits letters.now)) (drop from (seen.states states.old.keys)))) }
+        ensures many { IsErrOf result GraphFault.TooManyStates
+            → most < length
+            (put_all same_state (seen.states states.old.keys)
+            (leads_of (counted counts)
+            (leads_by (see.alternatives path.now) (seen.fits letters.now))
+            (drop from (seen.states states.old.keys)))) }
     {
         let end = states.len();
         for number in from..end {

@@ -64,7 +64,8 @@ fn as_number(value: bool) -> u64
 
 /// A step's predicate goes in by its number.
 fn mixed_step(numbered: &[&Test<'_>], start: u64, step: &Step<'_>) -> u64
-    ensures { result ≡ m.mixed_step (predicates numbered.now) start step.now.deep (see.node_test step.now.test) (see.test step.now.when) }
+    ensures { result ≡ m.mixed_step (predicates numbered.now) start step.now.deep
+        (see.node_test step.now.test) (see.test step.now.when) }
 {
     let hash = mixed_node_test(mixed(start, as_number(step.deep)), &step.test);
     mixed(hash, number_of_test(numbered, &step.when) as u64)

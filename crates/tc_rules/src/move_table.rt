@@ -44,7 +44,8 @@ impl<'b> MoveTable<'b> {
     /// A table without moves, with places for so many.
     fn new(alloc: Global, most: usize) -> Result<MoveTable<'b>, NoMemory>
         ensures moves { IfOk result (λ t. t.moves.items ≡ []) }
-        ensures filed { IfOk result (λ t. (tests : List s.Test) (modes : ℕ) → IsFiled tests modes t) }
+        ensures filed { IfOk result (λ t. (tests : List s.Test) (modes : ℕ)
+            → IsFiled tests modes t) }
     {
         let count = most.min(MOST_PLACES) + 1;
         let places = no_numbers(alloc, as_u32(count))?;
@@ -76,7 +77,8 @@ impl<'b> MoveTable<'b> {
 
     /// Whether the move of a number is the same.
     fn is_move_at(&self, modes: u32, sought: &Move<'_>, number: u32) -> bool
-        ensures { result ≡ is_move_at (moves modes self.now.moves.items) (see_move modes sought.now) number }
+        ensures { result ≡ is_move_at (moves modes self.now.moves.items)
+            (see_move modes sought.now) number }
     {
         match self.moves.get(number as usize) {
             Some(other) => same_job(modes, sought, other),
@@ -86,7 +88,8 @@ impl<'b> MoveTable<'b> {
 
     /// Whether the move of one of the numbers is the same.
     fn has_among(&self, modes: u32, sought: &Move<'_>, among: &[u32]) -> bool
-        ensures { result ≡ list_any (is_move_at (moves modes self.now.moves.items) (see_move modes sought.now)) among.now }
+        ensures { result ≡ list_any
+            (is_move_at (moves modes self.now.moves.items) (see_move modes sought.now)) among.now }
     {
         for number in among {
             if self.is_move_at(modes, sought, *number) {
@@ -100,10 +103,14 @@ impl<'b> MoveTable<'b> {
     fn put(&mut self, place: usize, sought: &Move<'b>) -> Result<(), NoMemory>
         requires place { place < length self.old.places.items }
         requires few { length self.old.places.items ≤ 4093 }
-        ensures moves { OnOk result (self.new.moves.items ≡ self.old.moves.items ++ sought.now ∷ []) }
+        ensures moves { OnOk result (self.new.moves.items ≡ self.old.moves.items
+            ++ sought.now ∷ []) }
         ensures count { OnOk result (length self.new.places.items ≡ length self.old.places.items) }
-        ensures added { OnOk result (get_or (numbers self.new.places.items) place [] ≡ get_or (numbers self.old.places.items) place [] ++ length self.old.moves.items ∷ []) }
-        ensures others { OnOk result ((p : ℕ) → p ≢ place → get_or (numbers self.new.places.items) p [] ≡ get_or (numbers self.old.places.items) p []) }
+        ensures added { OnOk result (get_or (numbers self.new.places.items) place []
+            ≡ get_or (numbers self.old.places.items) place [] ++ length self.old.moves.items ∷ []) }
+        ensures others { OnOk result ((p : ℕ) → p ≢ place
+            → get_or (numbers self.new.places.items) p []
+            ≡ get_or (numbers self.old.places.items) p []) }
     {
         let number = self.moves.len();
         add_number(&mut self.places, as_u32(place), number)?;
@@ -120,9 +127,13 @@ impl<'b> MoveTable<'b> {
     ) -> Result<(), RulesFault>
         requires { IsFiled (predicates numbered.now) modes self.old }
         ensures filed { OnOk result (IsFiled (predicates numbered.now) modes self.new) }
-        ensures moves { OnOk result (moves modes self.new.moves.items ≡ put_once same_move (moves modes self.old.moves.items) (see_move modes sought.now)) }
-        ensures jobs { OnOk result ((x : s.Sheet) → AreJobs x self.old.moves.items → IsJob x sought.now.job → AreJobs x self.new.moves.items) }
-        ensures cause { IfErr result (λ e. IsPathsCause (paths (put_once same_move (moves modes self.old.moves.items) (see_move modes sought.now))) e) }
+        ensures moves { OnOk result (moves modes self.new.moves.items
+            ≡ put_once same_move (moves modes self.old.moves.items) (see_move modes sought.now)) }
+        ensures jobs { OnOk result ((x : s.Sheet) → AreJobs x self.old.moves.items
+            → IsJob x sought.now.job → AreJobs x self.new.moves.items) }
+        ensures cause { IfErr result (λ e. IsPathsCause
+            (paths (put_once same_move (moves modes self.old.moves.items)
+            (see_move modes sought.now))) e) }
     {
         let place = self.place_of(mixed_move(numbered, modes, sought));
         if self.has_among(modes, sought, self.numbers_at(place)) {
@@ -165,9 +176,11 @@ pub(crate) fn moves_once<'b>(
     modes: u32,
     found: &[Move<'b>],
 ) -> Result<Vec<Move<'b>>, RulesFault>
-    ensures kept { IfOk result (λ v. moves modes v.items ≡ each_once same_move (moves modes found.now)) }
+    ensures kept { IfOk result (λ v. moves modes v.items
+        ≡ each_once same_move (moves modes found.now)) }
     ensures jobs { IfOk result (λ v. (x : s.Sheet) → AreJobs x found.now → AreJobs x v.items) }
-    ensures cause { IfErr result (λ e. IsPathsCause (paths (each_once same_move (moves modes found.now))) e) }
+    ensures cause { IfErr result (λ e. IsPathsCause
+        (paths (each_once same_move (moves modes found.now))) e) }
 {
     let mut table = MoveTable::new(alloc, found.len())?;
     for sought in found {

@@ -23,9 +23,11 @@ pub(crate) fn predicates_once<'b>(
     alloc: Global,
     found: &[&'b Test<'b>],
 ) -> Result<Vec<&'b Test<'b>>, RulesFault>
-    ensures kept { IfOk result (λ v. predicates v.items ≡ each_once same.same_test (predicates found.now)) }
+    ensures kept { IfOk result (λ v. predicates v.items
+        ≡ each_once same.same_test (predicates found.now)) }
     ensures few { IfOk result (λ v. length v.items ≤ 6) }
-    ensures cause { IfErr result (λ e. IsPredicatesCause (each_once same.same_test (predicates found.now)) e) }
+    ensures cause { IfErr result (λ e. IsPredicatesCause
+        (each_once same.same_test (predicates found.now)) e) }
 {
     let mut kept = Vec::new(alloc);
     for test in found {
@@ -37,9 +39,11 @@ pub(crate) fn predicates_once<'b>(
 /// One more predicate, unless one of those kept is the same.
 fn keep_predicate<'b>(kept: &mut Vec<&'b Test<'b>>, test: &'b Test<'b>) -> Result<(), RulesFault>
     requires few { length kept.old.items ≤ 6 }
-    ensures kept { OnOk result (predicates kept.new.items ≡ put_once same.same_test (predicates kept.old.items) (see.test test.now)) }
+    ensures kept { OnOk result (predicates kept.new.items
+        ≡ put_once same.same_test (predicates kept.old.items) (see.test test.now)) }
     ensures few { OnOk result (length kept.new.items ≤ 6) }
-    ensures cause { IfErr result (λ e. IsPredicatesCause (put_once same.same_test (predicates kept.old.items) (see.test test.now)) e) }
+    ensures cause { IfErr result (λ e. IsPredicatesCause
+        (put_once same.same_test (predicates kept.old.items) (see.test test.now)) e) }
 {
     let count = kept.len();
     if number_of_test(kept, test) < count {
@@ -61,7 +65,8 @@ fn put_predicate<'b>(kept: &mut Vec<&'b Test<'b>>, test: &'b Test<'b>) -> Result
 
 /// How many predicates stand before the first that is the same.
 pub(crate) fn number_of_test(numbered: &[&Test<'_>], test: &Test<'_>) -> usize
-    ensures number { result ≡ number_of same.same_test (see.test test.now) (predicates numbered.now) }
+    ensures number { result ≡ number_of same.same_test (see.test test.now)
+        (predicates numbered.now) }
     ensures bound { result ≤ length numbered.now }
 {
     for (i, other) in numbered.iter().enumerate() {
@@ -106,7 +111,8 @@ pub(crate) fn same_job(modes: u32, a: &Move<'_>, b: &Move<'_>) -> bool
 
 /// How many moves stand before the first that is the same.
 pub(crate) fn number_of_move(modes: u32, numbered: &[Move<'_>], sought: &Move<'_>) -> usize
-    ensures number { result ≡ number_of same_move (see_move modes sought.now) (moves modes numbered.now) }
+    ensures number { result ≡ number_of same_move (see_move modes sought.now)
+        (moves modes numbered.now) }
     ensures bound { result ≤ length numbered.now }
 {
     for (i, other) in numbered.iter().enumerate() {

@@ -19,7 +19,8 @@ pub struct QualifiedName<'t> {
 
 /// The character at the front, and what follows it.
 pub fn first_char(text: &str) -> Option<(char, &str)>
-    ensures { MatchOption result (text.now ≡ []) (λ r. IsScalar r.0 × (text.now ≡ encode_utf8 r.0 ++ r.1.now)) }
+    ensures { MatchOption result (text.now ≡ [])
+        (λ r. IsScalar r.0 × (text.now ≡ encode_utf8 r.0 ++ r.1.now)) }
 {
     let first = text.chars().next()?;
     Some((first, &text[first.len_utf8()..]))
@@ -109,7 +110,8 @@ fn ascii_name(text: &str) -> Option<(&str, &str)>
 /// An NCName at the front, as long as it goes, and what follows it.
 #[inline(never)]
 fn any_name(text: &str) -> Option<(&str, &str)>
-    ensures { MatchOption result ((name after : List ℕ) → xml.NcNameAt text.now name after → ⊥) (λ r. xml.NcNameAt text.now r.0.now r.1.now) }
+    ensures { MatchOption result ((name after : List ℕ) → xml.NcNameAt text.now name after → ⊥)
+        (λ r. xml.NcNameAt text.now r.0.now r.1.now) }
 {
     let (first, after) = first_char(text)?;
     if !is_ncname_start(first) {
@@ -127,7 +129,8 @@ fn any_name(text: &str) -> Option<(&str, &str)>
 
 /// An NCName at the front, as long as it goes, and what follows it (Namespaces in XML 1.0, 3, [4]).
 pub fn ncname(text: &str) -> Option<(&str, &str)>
-    ensures { MatchOption result ((name after : List ℕ) → xml.NcNameAt text.now name after → ⊥) (λ r. xml.NcNameAt text.now r.0.now r.1.now) }
+    ensures { MatchOption result ((name after : List ℕ) → xml.NcNameAt text.now name after → ⊥)
+        (λ r. xml.NcNameAt text.now r.0.now r.1.now) }
 {
     match ascii_name(text) {
         Some(found) => Some(found),
@@ -137,7 +140,9 @@ pub fn ncname(text: &str) -> Option<(&str, &str)>
 
 /// A QName at the front, and what follows it (Namespaces in XML 1.0, 4, [7] to [11]).
 pub fn qname(text: &str) -> Option<(QualifiedName<'_>, &str)>
-    ensures { MatchOption result ((name : xml.QualifiedName) (after : List ℕ) → xml.QNameAt text.now name after → ⊥) (λ r. xml.QNameAt text.now (written_name r.0) r.1.now) }
+    ensures { MatchOption result
+        ((name : xml.QualifiedName) (after : List ℕ) → xml.QNameAt text.now name after → ⊥)
+        (λ r. xml.QNameAt text.now (written_name r.0) r.1.now) }
 {
     let (first, rest) = ncname(text)?;
     match after_byte(rest, b':') {

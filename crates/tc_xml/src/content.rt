@@ -48,7 +48,8 @@ pub(crate) struct OpenTag<'b, 't> {
 /// Whether this ASCII byte is at the front.
 pub(crate) fn begins(text: &str, byte: u8) -> bool
     requires { byte < 128 }
-    ensures { MatchBool result ((r : List ℕ) × (text.now ≡ byte ∷ r)) ((r : List ℕ) → text.now ≡ byte ∷ r → ⊥) }
+    ensures { MatchBool result ((r : List ℕ) × (text.now ≡ byte ∷ r))
+        ((r : List ℕ) → text.now ≡ byte ∷ r → ⊥) }
 {
     match after_byte(text, byte) {
         Some(_) => true,
@@ -88,7 +89,8 @@ fn attribute<'b, 't>(
         ((a : xml_scopes.WrittenAttribute) (after : List ℕ) → AttributeAt true total text.now a after → ⊥)
         ((a : xml_scopes.WrittenAttribute) (after : List ℕ) → AttributeAt false total text.now a after → ⊥)) }
     ensures stands { IfErr result (λ e. UnsupportedAt e (refusals.AttributesRefuse text.now)) }
-    ensures malformed { IfErr result (λ e. OnMalformed e ((why : Why) (at : List ℕ) → refusals.AttributesRefuse text.now why at → ⊥)) }
+    ensures malformed { IfErr result (λ e. OnMalformed e
+        ((why : Why) (at : List ℕ) → refusals.AttributesRefuse text.now why at → ⊥)) }
 {
     let Some(start) = after_some_white(text) else {
         return Err(Stop::Malformed(text.len()));
@@ -114,13 +116,15 @@ fn attributes<'b, 't>(
     text: &'t str,
 ) -> Result<(Vec<Written<'b, 't>, &'b Bump>, &'t str), Stop>
     requires { total ≤ 67108864 }
-    ensures ok { IfOk result (λ r. xml.AttributesAt false total text.now (map written r.0.items) r.1.now) }
+    ensures ok { IfOk result (λ r. xml.AttributesAt false total text.now
+        (map written r.0.items) r.1.now) }
     ensures no_space { IfOk result (λ r. IsTrue (lacks_space (map written r.0.items))) }
     ensures no { IfErr result (λ e. Refuses e
         ((attributes : List xml_scopes.WrittenAttribute) (after : List ℕ) → xml.AttributesAt true total text.now attributes after → IsTrue (lacks_space attributes) → ⊥)
         ((attributes : List xml_scopes.WrittenAttribute) (after : List ℕ) → xml.AttributesAt false total text.now attributes after → IsTrue (lacks_space attributes) → ⊥)) }
     ensures stands { IfErr result (λ e. UnsupportedAt e (refusals.AttributesRefuse text.now)) }
-    ensures malformed { IfErr result (λ e. OnMalformed e ((why : Why) (at : List ℕ) → refusals.AttributesRefuse text.now why at → ⊥)) }
+    ensures malformed { IfErr result (λ e. OnMalformed e
+        ((why : Why) (at : List ℕ) → refusals.AttributesRefuse text.now why at → ⊥)) }
 {
     let mut found = Vec::new(arena);
     let mut rest = text;
@@ -160,7 +164,8 @@ pub(crate) fn open_tag<'b, 't>(
         ((w : xml_names.QualifiedName) (scope : List Bound) (n : ExpandedName) (attributes : List Attribute) (after : List ℕ) → xml.TagAt true total (in_scope outer.entry) text.now w scope n attributes after → ⊥)
         ((w : xml_names.QualifiedName) (scope : List Bound) (n : ExpandedName) (attributes : List Attribute) (after : List ℕ) → xml.TagAt false total (in_scope outer.entry) text.now w scope n attributes after → ⊥)) }
     ensures stands { IfErr result (λ e. UnsupportedAt e (refusals.TagRefuses text.now)) }
-    ensures malformed { IfErr result (λ e. OnMalformed e ((why : Why) (at : List ℕ) → refusals.TagRefuses text.now why at → ⊥)) }
+    ensures malformed { IfErr result (λ e. OnMalformed e
+        ((why : Why) (at : List ℕ) → refusals.TagRefuses text.now why at → ⊥)) }
 {
     let Some(start) = after_byte(text, b'<') else {
         return Err(Stop::Malformed(text.len()));
@@ -206,7 +211,9 @@ fn gathered_nothing<'b>(arena: &'b Bump) -> Gathered<'b>
 
 /// A run that has begun at this place, or goes on.
 fn begun<'b>(arena: &'b Bump, run: Run<'b>, place: Place) -> (String<&'b Bump>, Place)
-    ensures { (s : List ℕ) (h : RawTrees) → characters_before (string_bytes result.0 ++ s) (see_place result.1) h ≡ run_before run.entry (characters_before s (see_place place) h) }
+    ensures { (s : List ℕ) (h : RawTrees)
+        → characters_before (string_bytes result.0 ++ s) (see_place result.1) h
+        ≡ run_before run.entry (characters_before s (see_place place) h) }
 {
     match run {
         Run::Nothing => (String::new(arena), place),
@@ -221,7 +228,8 @@ fn gather_characters(
     characters: &str,
     first: Place,
 ) -> Result<(), NoMemory>
-    ensures { OnOk result (AddsPiece gathered.old gathered.new (xml.characters (bytes.line_ends characters.now) (see_place first))) }
+    ensures { OnOk result (AddsPiece gathered.old gathered.new
+        (xml.characters (bytes.line_ends characters.now) (see_place first))) }
 {
     let run = mem::replace(&mut gathered.run, Run::Nothing);
     let (mut text, first) = begun(gathered.arena, run, first);
@@ -237,7 +245,8 @@ fn gather_character(
     character: char,
     first: Place,
 ) -> Result<(), NoMemory>
-    ensures { OnOk result (AddsPiece gathered.old gathered.new (xml.characters (encode_utf8 character) (see_place first))) }
+    ensures { OnOk result (AddsPiece gathered.old gathered.new
+        (xml.characters (encode_utf8 character) (see_place first))) }
 {
     let run = mem::replace(&mut gathered.run, Run::Nothing);
     let (mut text, first) = begun(gathered.arena, run, first);
@@ -261,7 +270,8 @@ fn push_tree<'b>(trees: &mut Vec<Raw<'b>, &'b Bump>, tree: Raw<'b>) -> Result<()
 #[inline(never)]
 fn end_run(gathered: &mut Gathered<'_>) -> Result<(), NoMemory>
     ensures ended { OnOk result (gathered.new.run ≡ Nothing) }
-    ensures kept { OnOk result ((h : RawTrees) → BeginsWithNoText h → gathered_before gathered.new h ≡ gathered_before gathered.old h) }
+    ensures kept { OnOk result ((h : RawTrees) → BeginsWithNoText h
+        → gathered_before gathered.new h ≡ gathered_before gathered.old h) }
 {
     if let Run::Begun(text, place) = mem::replace(&mut gathered.run, Run::Nothing) {
         let text = into_bump_str(text);
@@ -309,9 +319,12 @@ fn gather_element<'b>(
 fn characters<'t>(gathered: &mut Gathered<'_>, total: usize, text: &'t str) -> Result<&'t str, Stop>
     requires total { total ≤ 67108864 }
     requires no_markup { (r : List ℕ) → text.now ≡ 0x3C ∷ r → ⊥ }
-    ensures ok { IfOk result (λ rest. (p : xml.Piece) × SmallItemAt total text.now p rest.now × AddsPiece gathered.old gathered.new p) }
-    ensures no { IfErr result (λ e. Refuses e (LacksItem true total text.now) (LacksItem false total text.now)) }
-    ensures stands { IfErr result (λ e. UnsupportedAt e (λ why at. (why ≡ EntityReference) × (at ≡ text.now) × refusals.OtherEntityAt at)) }
+    ensures ok { IfOk result (λ rest. (p : xml.Piece) × SmallItemAt total text.now p rest.now
+        × AddsPiece gathered.old gathered.new p) }
+    ensures no { IfErr result (λ e. Refuses e (LacksItem true total text.now)
+        (LacksItem false total text.now)) }
+    ensures stands { IfErr result (λ e. UnsupportedAt e
+        (λ why at. (why ≡ EntityReference) × (at ≡ text.now) × refusals.OtherEntityAt at)) }
 {
     if begins(text, b'&') {
         let (character, rest) = reference(text)?;
@@ -327,7 +340,8 @@ fn characters<'t>(gathered: &mut Gathered<'_>, total: usize, text: &'t str) -> R
 
 /// How many bytes stand before the first `<` or `&`, or before the end, where no `]` stands among them.
 fn clear_len(text: &str) -> Option<usize>
-    ensures { IfSome result (λ count. (count ≡ prefix_len references.is_plain text.now) × bytes.Lacks (codes "]]>") (take count text.now)) }
+    ensures { IfSome result (λ count. (count ≡ prefix_len references.is_plain text.now)
+        × bytes.Lacks (codes "]]>") (take count text.now)) }
 {
     let bytes = text.as_bytes();
     let Some(count) = memchr3(b'<', b'&', b']', bytes) else {
@@ -381,7 +395,8 @@ fn comment_or_cdata<'t>(
 ) -> Result<&'t str, Stop>
     requires total { total ≤ 67108864 }
     requires opens { (r : List ℕ) × (text.now ≡ codes "<!" ++ r) }
-    ensures ok { IfOk result (λ rest. (p : xml.Piece) × SmallItemAt total text.now p rest.now × AddsPiece gathered.old gathered.new p) }
+    ensures ok { IfOk result (λ rest. (p : xml.Piece) × SmallItemAt total text.now p rest.now
+        × AddsPiece gathered.old gathered.new p) }
     ensures no { IfErr result (λ e. Breaks e (LacksItem true total text.now)) }
 {
     if let Some(rest) = after_comment(text) {
@@ -427,13 +442,18 @@ fn content<'b, 't>(
     depth: u32,
 ) -> Result<&'t str, Stop>
     requires { total ≤ 67108864 }
-    ensures ok { IfOk result (λ rest. (h : RawTrees) × xml.ContentAt false total (in_scope scope.entry) depth text.now h rest.now × AddsContent gathered.old gathered.new h) }
+    ensures ok { IfOk result (λ rest. (h : RawTrees)
+        × xml.ContentAt false total (in_scope scope.entry) depth text.now h rest.now
+        × AddsContent gathered.old gathered.new h) }
     ensures no { IfErr result (λ e. RefusesWithin e
         ((d : ℕ) (h : RawTrees) (after : List ℕ) → xml.ContentAt true total (in_scope scope.entry) d text.now h after → ⊥)
         ((d : ℕ) (h : RawTrees) (after : List ℕ) → xml.ContentAt false total (in_scope scope.entry) d text.now h after → ⊥)
         ((h : RawTrees) (after : List ℕ) → xml.ContentAt true total (in_scope scope.entry) depth text.now h after → ⊥)) }
-    ensures stands { IfErr result (λ e. RefusedAt e (refusals.ContentRefuses total (in_scope scope.entry) depth text.now)) }
-    ensures malformed { IfErr result (λ e. OnMalformed e ((cause : refusals.Cause) (at : List ℕ) → refusals.ContentRefuses total (in_scope scope.entry) depth text.now cause at → ⊥)) }
+    ensures stands { IfErr result (λ e. RefusedAt e
+        (refusals.ContentRefuses total (in_scope scope.entry) depth text.now)) }
+    ensures malformed { IfErr result (λ e. OnMalformed e
+        ((cause : refusals.Cause) (at : List ℕ)
+        → refusals.ContentRefuses total (in_scope scope.entry) depth text.now cause at → ⊥)) }
 {
     let mut rest = text;
     while !begins_mark(rest, "</") {
@@ -452,13 +472,18 @@ fn item<'b, 't>(
     depth: u32,
 ) -> Result<&'t str, Stop>
     requires { total ≤ 67108864 }
-    ensures ok { IfOk result (λ rest. (p : xml.Piece) × xml.ItemAt false total (in_scope scope.entry) depth text.now p rest.now × AddsPiece gathered.old gathered.new p) }
+    ensures ok { IfOk result (λ rest. (p : xml.Piece)
+        × xml.ItemAt false total (in_scope scope.entry) depth text.now p rest.now
+        × AddsPiece gathered.old gathered.new p) }
     ensures no { IfErr result (λ e. RefusesWithin e
         ((d : ℕ) (p : xml.Piece) (after : List ℕ) → xml.ItemAt true total (in_scope scope.entry) d text.now p after → ⊥)
         ((d : ℕ) (p : xml.Piece) (after : List ℕ) → xml.ItemAt false total (in_scope scope.entry) d text.now p after → ⊥)
         ((p : xml.Piece) (after : List ℕ) → xml.ItemAt true total (in_scope scope.entry) depth text.now p after → ⊥)) }
-    ensures stands { IfErr result (λ e. RefusedAt e (refusals.ContentRefuses total (in_scope scope.entry) depth text.now)) }
-    ensures malformed { IfErr result (λ e. OnMalformed e ((cause : refusals.Cause) (at : List ℕ) → refusals.ContentRefuses total (in_scope scope.entry) depth text.now cause at → ⊥)) }
+    ensures stands { IfErr result (λ e. RefusedAt e
+        (refusals.ContentRefuses total (in_scope scope.entry) depth text.now)) }
+    ensures malformed { IfErr result (λ e. OnMalformed e
+        ((cause : refusals.Cause) (at : List ℕ)
+        → refusals.ContentRefuses total (in_scope scope.entry) depth text.now cause at → ⊥)) }
 {
     let Some(markup) = after_byte(text, b'<') else {
         return characters(gathered, total, text);
@@ -485,13 +510,18 @@ fn element<'b, 't>(
     depth: u32,
 ) -> Result<&'t str, Stop>
     requires { total ≤ 67108864 }
-    ensures ok { IfOk result (λ rest. (p : xml.Piece) × xml.ElementAt false total (in_scope outer.entry) depth text.now p rest.now × AddsPiece gathered.old gathered.new p) }
+    ensures ok { IfOk result (λ rest. (p : xml.Piece)
+        × xml.ElementAt false total (in_scope outer.entry) depth text.now p rest.now
+        × AddsPiece gathered.old gathered.new p) }
     ensures no { IfErr result (λ e. RefusesWithin e
         ((d : ℕ) (p : xml.Piece) (after : List ℕ) → xml.ElementAt true total (in_scope outer.entry) d text.now p after → ⊥)
         ((d : ℕ) (p : xml.Piece) (after : List ℕ) → xml.ElementAt false total (in_scope outer.entry) d text.now p after → ⊥)
         ((p : xml.Piece) (after : List ℕ) → xml.ElementAt true total (in_scope outer.entry) depth text.now p after → ⊥)) }
-    ensures stands { IfErr result (λ e. RefusedAt e (refusals.ElementRefuses total (in_scope outer.entry) depth text.now)) }
-    ensures malformed { IfErr result (λ e. OnMalformed e ((cause : refusals.Cause) (at : List ℕ) → refusals.ElementRefuses total (in_scope outer.entry) depth text.now cause at → ⊥)) }
+    ensures stands { IfErr result (λ e. RefusedAt e
+        (refusals.ElementRefuses total (in_scope outer.entry) depth text.now)) }
+    ensures malformed { IfErr result (λ e. OnMalformed e
+        ((cause : refusals.Cause) (at : List ℕ)
+        → refusals.ElementRefuses total (in_scope outer.entry) depth text.now cause at → ⊥)) }
 {
     if depth == 0 {
         return Err(too_deep(text));
@@ -512,13 +542,19 @@ fn body<'b, 't>(
     depth: u32,
 ) -> Result<&'t str, Stop>
     requires { total ≤ 67108864 }
-    ensures ok { IfOk result (λ rest. (h : RawTrees) × BodyAt false total (in_scope tag.now.meaning.scope) depth (written_name tag.now.written) tag.now.rest.now h rest.now × AddsContent kids.old kids.new h) }
+    ensures ok { IfOk result (λ rest. (h : RawTrees)
+        × BodyAt false total (in_scope tag.now.meaning.scope) depth
+        (written_name tag.now.written) tag.now.rest.now h rest.now
+        × AddsContent kids.old kids.new h) }
     ensures no { IfErr result (λ e. RefusesWithin e
         ((d : ℕ) (h : RawTrees) (after : List ℕ) → BodyAt true total (in_scope tag.now.meaning.scope) d (written_name tag.now.written) tag.now.rest.now h after → ⊥)
         ((d : ℕ) (h : RawTrees) (after : List ℕ) → BodyAt false total (in_scope tag.now.meaning.scope) d (written_name tag.now.written) tag.now.rest.now h after → ⊥)
         ((h : RawTrees) (after : List ℕ) → BodyAt true total (in_scope tag.now.meaning.scope) depth (written_name tag.now.written) tag.now.rest.now h after → ⊥)) }
-    ensures stands { IfErr result (λ e. RefusedAt e (BodyRefuses total (in_scope tag.now.meaning.scope) depth tag.now.rest.now)) }
-    ensures malformed { IfErr result (λ e. OnMalformed e ((cause : refusals.Cause) (at : List ℕ) → BodyRefuses total (in_scope tag.now.meaning.scope) depth tag.now.rest.now cause at → ⊥)) }
+    ensures stands { IfErr result (λ e. RefusedAt e
+        (BodyRefuses total (in_scope tag.now.meaning.scope) depth tag.now.rest.now)) }
+    ensures malformed { IfErr result (λ e. OnMalformed e
+        ((cause : refusals.Cause) (at : List ℕ)
+        → BodyRefuses total (in_scope tag.now.meaning.scope) depth tag.now.rest.now cause at → ⊥)) }
 {
     if let Some(rest) = after_mark(tag.rest, "/>") {
         return Ok(rest);
@@ -539,8 +575,12 @@ fn too_deep(text: &str) -> Stop
         ((d : ℕ) (p : xml.Piece) (after : List ℕ) → xml.ElementAt true total outer d text.now p after → ⊥)
         ((d : ℕ) (p : xml.Piece) (after : List ℕ) → xml.ElementAt false total outer d text.now p after → ⊥)
         ((p : xml.Piece) (after : List ℕ) → xml.ElementAt true total outer 0 text.now p after → ⊥) }
-    ensures stands { (total : ℕ) (outer : List Bound) → RefusedAt result (refusals.ElementRefuses total outer 0 text.now) }
-    ensures malformed { (total : ℕ) (outer : List Bound) → OnMalformed result ((cause : refusals.Cause) (at : List ℕ) → refusals.ElementRefuses total outer 0 text.now cause at → ⊥) }
+    ensures stands { (total : ℕ) (outer : List Bound)
+        → RefusedAt result (refusals.ElementRefuses total outer 0 text.now) }
+    ensures malformed { (total : ℕ) (outer : List Bound)
+        → OnMalformed result
+        ((cause : refusals.Cause) (at : List ℕ)
+        → refusals.ElementRefuses total outer 0 text.now cause at → ⊥) }
 {
     if opens_element(text) {
         Stop::TooDeep(text.len())
@@ -557,13 +597,18 @@ pub(crate) fn root_element<'b, 't>(
     depth: u32,
 ) -> Result<(Raw<'b>, &'t str), Stop>
     requires { total ≤ 67108864 }
-    ensures ok { IfOk result (λ r. (p : xml.Piece) × xml.ElementAt false total xml_scopes.first_scope depth text.now p r.1.now × (raw_tree r.0 ≡ xml.piece_before p none)) }
+    ensures ok { IfOk result (λ r. (p : xml.Piece)
+        × xml.ElementAt false total xml_scopes.first_scope depth text.now p r.1.now
+        × (raw_tree r.0 ≡ xml.piece_before p none)) }
     ensures no { IfErr result (λ e. RefusesWithin e
         ((d : ℕ) (p : xml.Piece) (after : List ℕ) → xml.ElementAt true total xml_scopes.first_scope d text.now p after → ⊥)
         ((d : ℕ) (p : xml.Piece) (after : List ℕ) → xml.ElementAt false total xml_scopes.first_scope d text.now p after → ⊥)
         ((p : xml.Piece) (after : List ℕ) → xml.ElementAt true total xml_scopes.first_scope depth text.now p after → ⊥)) }
-    ensures stands { IfErr result (λ e. RefusedAt e (refusals.ElementRefuses total xml_scopes.first_scope depth text.now)) }
-    ensures malformed { IfErr result (λ e. OnMalformed e ((cause : refusals.Cause) (at : List ℕ) → refusals.ElementRefuses total xml_scopes.first_scope depth text.now cause at → ⊥)) }
+    ensures stands { IfErr result (λ e. RefusedAt e
+        (refusals.ElementRefuses total xml_scopes.first_scope depth text.now)) }
+    ensures malformed { IfErr result (λ e. OnMalformed e
+        ((cause : refusals.Cause) (at : List ℕ)
+        → refusals.ElementRefuses total xml_scopes.first_scope depth text.now cause at → ⊥)) }
 {
     let scope = first_scope(arena)?;
     let mut gathered = gathered_nothing(arena);

@@ -78,7 +78,8 @@ impl<'b> Levels<'b> {
     /// Reads the tag at the front, where an element may start, up to where it ends, and binds what it declares.
     fn read_tag(&mut self, arena: &'b Bump, text: &'b str) -> Option<Tag<'b>>
         ensures deep { IfSome result (λ _. 0 < self.old.depth) }
-        ensures reads { IfSome result (λ tag. (total : ℕ) → TagRead total self.old.bindings text.now tag self.new.bindings) }
+        ensures reads { IfSome result (λ tag. (total : ℕ)
+            → TagRead total self.old.bindings text.now tag self.new.bindings) }
         ensures opens { self.new.open.items ≡ self.old.open.items }
         ensures depth { self.new.depth ≡ self.old.depth }
     {
@@ -130,7 +131,8 @@ fn with_character<'b>(arena: &'b Bump, run: Run<'b>, more: char) -> Option<Run<'
 
 /// Hands on the run, unless it is white space alone.
 fn end_run<'b, T: TakesTrees<'b>>(reader: &mut Reader<'b, T>) -> Option<()>
-    ensures taken { IfSome result (λ _. Takes T.takes reader.old.taker (waiting (run_text reader.old.run) none) reader.new.taker) }
+    ensures taken { IfSome result (λ _. Takes T.takes reader.old.taker
+        (waiting (run_text reader.old.run) none) reader.new.taker) }
     ensures ended { IfSome result (λ _. run_text reader.new.run ≡ []) }
 {
     let text = text_of(mem::replace(&mut reader.run, Run::Nothing));
@@ -143,7 +145,8 @@ fn end_run<'b, T: TakesTrees<'b>>(reader: &mut Reader<'b, T>) -> Option<()>
 /// Adds characters to the run.
 fn add_characters<'b, T: TakesTrees<'b>>(reader: &mut Reader<'b, T>, more: &'b str) -> Option<()>
     ensures taker { IfSome result (λ _. reader.new.taker ≡ reader.old.taker) }
-    ensures run { IfSome result (λ _. run_text reader.new.run ≡ run_text reader.old.run ++ bytes.line_ends more.now) }
+    ensures run { IfSome result (λ _. run_text reader.new.run ≡ run_text reader.old.run
+        ++ bytes.line_ends more.now) }
 {
     let run = mem::replace(&mut reader.run, Run::Nothing);
     reader.run = with_characters(reader.arena, run, more)?;
@@ -153,7 +156,8 @@ fn add_characters<'b, T: TakesTrees<'b>>(reader: &mut Reader<'b, T>, more: &'b s
 /// Adds a character to the run.
 fn add_character<'b, T: TakesTrees<'b>>(reader: &mut Reader<'b, T>, more: char) -> Option<()>
     ensures taker { IfSome result (λ _. reader.new.taker ≡ reader.old.taker) }
-    ensures run { IfSome result (λ _. run_text reader.new.run ≡ run_text reader.old.run ++ encode_utf8 more) }
+    ensures run { IfSome result (λ _. run_text reader.new.run ≡ run_text reader.old.run
+        ++ encode_utf8 more) }
 {
     let run = mem::replace(&mut reader.run, Run::Nothing);
     reader.run = with_character(reader.arena, run, more)?;
@@ -166,7 +170,9 @@ fn text_item<'b, T: TakesTrees<'b>>(
     total: usize,
     text: &'b str,
 ) -> Option<&'b str>
-    ensures { IfSome result (λ rest. (p : xml.Piece) × SmallItemAt total text.now p rest.now × Took T.takes reader.old.taker (run_text reader.old.run) p reader.new.taker (run_text reader.new.run)) }
+    ensures { IfSome result (λ rest. (p : xml.Piece) × SmallItemAt total text.now p rest.now
+        × Took T.takes reader.old.taker (run_text reader.old.run) p reader.new.taker
+        (run_text reader.new.run)) }
 {
     if begins(text, b'&') {
         let Ok((character, rest)) = reference(text) else {
@@ -186,7 +192,9 @@ fn marked_item<'b, T: TakesTrees<'b>>(
     total: usize,
     text: &'b str,
 ) -> Option<&'b str>
-    ensures { IfSome result (λ rest. (p : xml.Piece) × SmallItemAt total text.now p rest.now × Took T.takes reader.old.taker (run_text reader.old.run) p reader.new.taker (run_text reader.new.run)) }
+    ensures { IfSome result (λ rest. (p : xml.Piece) × SmallItemAt total text.now p rest.now
+        × Took T.takes reader.old.taker (run_text reader.old.run) p reader.new.taker
+        (run_text reader.new.run)) }
 {
     if let Some(rest) = after_comment(text) {
         return Some(rest);
@@ -198,7 +206,9 @@ fn marked_item<'b, T: TakesTrees<'b>>(
 
 /// Hands on the run, and the start of an element with this name.
 fn start_element<'b, T: TakesTrees<'b>>(reader: &mut Reader<'b, T>, name: Name<'b>) -> Option<()>
-    ensures taken { IfSome result (λ _. Takes T.takes reader.old.taker (waiting (run_text reader.old.run) none ++ started (seen_name name.entry) ∷ []) reader.new.taker) }
+    ensures taken { IfSome result (λ _. Takes T.takes reader.old.taker
+        (waiting (run_text reader.old.run) none
+        ++ started (seen_name name.entry) ∷ []) reader.new.taker) }
     ensures ended { IfSome result (λ _. run_text reader.new.run ≡ []) }
 {
     end_run(reader)?;
@@ -236,7 +246,11 @@ fn start_tag<'b, T: TakesTrees<'b>>(
     text: &'b str,
 ) -> Option<&'b str>
     requires { total ≤ 67108864 }
-    ensures steps { IfSome result (λ rest. (deepest : ℕ) (root : List ℕ) (begun : T) → StandsAt T.takes total deepest root begun levels.old text.now reader.old.taker (run_text reader.old.run) → StandsAfter T.takes total deepest root begun levels.new rest.now reader.new.taker (run_text reader.new.run)) }
+    ensures steps { IfSome result (λ rest. (deepest : ℕ) (root : List ℕ) (begun : T)
+        → StandsAt T.takes total deepest root begun levels.old text.now reader.old.taker
+        (run_text reader.old.run)
+        → StandsAfter T.takes total deepest root begun levels.new rest.now reader.new.taker
+        (run_text reader.new.run)) }
     ensures shorter { IfSome result (λ rest. length rest.now < length text.now) }
 {
     let outer_count = levels.bindings.count();
@@ -254,7 +268,8 @@ fn start_tag<'b, T: TakesTrees<'b>>(
 /// Goes into an element, around which so many declarations are in scope.
 fn enter<'b>(levels: &mut Levels<'b>, written: QualifiedName<'b>, count: usize) -> Option<()>
     requires { 0 < levels.old.depth }
-    ensures { IfSome result (λ _. IsWithin levels.old (written_name written.entry) count levels.new) }
+    ensures { IfSome result (λ _. IsWithin levels.old
+        (written_name written.entry) count levels.new) }
 {
     let open = Open {
         written,
@@ -270,7 +285,9 @@ fn enter<'b>(levels: &mut Levels<'b>, written: QualifiedName<'b>, count: usize) 
 
 /// What follows the bytes of a name.
 fn after_name<'t>(text: &'t str, name: &QualifiedName<'_>) -> Option<&'t str>
-    ensures names { IfSome result (λ r. (bs past after : List ℕ) → QNameAt bs (written_name name.now) past → r.now ≡ 0x3E ∷ after → QNameAt text.now (written_name name.now) r.now) }
+    ensures names { IfSome result (λ r. (bs past after : List ℕ)
+        → QNameAt bs (written_name name.now) past → r.now ≡ 0x3E ∷ after
+        → QNameAt text.now (written_name name.now) r.now) }
     ensures within { IfSome result (λ r. length r.now ≤ length text.now) }
 {
     if name.prefix.is_empty() {
@@ -282,7 +299,8 @@ fn after_name<'t>(text: &'t str, name: &QualifiedName<'_>) -> Option<&'t str>
 
 /// What follows the end tag that is the bytes of a name and no white space.
 fn after_plain_end_tag<'t>(text: &'t str, name: &QualifiedName<'_>) -> Option<&'t str>
-    ensures ends { IfSome result (λ r. (bs past : List ℕ) → QNameAt bs (written_name name.now) past → EndTagAt (written_name name.now) text.now r.now) }
+    ensures ends { IfSome result (λ r. (bs past : List ℕ) → QNameAt bs (written_name name.now) past
+        → EndTagAt (written_name name.now) text.now r.now) }
     ensures shorter { IfSome result (λ r. length r.now < length text.now) }
 {
     let end = after_byte(after_byte(text, b'<')?, b'/')?;
@@ -291,7 +309,8 @@ fn after_plain_end_tag<'t>(text: &'t str, name: &QualifiedName<'_>) -> Option<&'
 
 /// What follows the end tag with the name of an element that has started, where one is at the front.
 fn after_end_of<'t>(text: &'t str, name: &QualifiedName<'_>) -> Option<&'t str>
-    ensures ends { IfSome result (λ r. (bs past : List ℕ) → QNameAt bs (written_name name.now) past → EndTagAt (written_name name.now) text.now r.now) }
+    ensures ends { IfSome result (λ r. (bs past : List ℕ) → QNameAt bs (written_name name.now) past
+        → EndTagAt (written_name name.now) text.now r.now) }
     ensures shorter { IfSome result (λ r. length r.now < length text.now) }
 {
     match after_plain_end_tag(text, name) {
@@ -308,7 +327,11 @@ fn end_tag<'b, T: TakesTrees<'b>>(
     text: &'b str,
 ) -> Option<&'b str>
     requires { total ≤ 67108864 }
-    ensures steps { IfSome result (λ rest. (deepest : ℕ) (root : List ℕ) (begun : T) → StandsAt T.takes total deepest root begun levels.old text.now reader.old.taker (run_text reader.old.run) → StandsAfter T.takes total deepest root begun levels.new rest.now reader.new.taker (run_text reader.new.run)) }
+    ensures steps { IfSome result (λ rest. (deepest : ℕ) (root : List ℕ) (begun : T)
+        → StandsAt T.takes total deepest root begun levels.old text.now reader.old.taker
+        (run_text reader.old.run)
+        → StandsAfter T.takes total deepest root begun levels.new rest.now reader.new.taker
+        (run_text reader.new.run)) }
     ensures shorter { IfSome result (λ rest. length rest.now < length text.now) }
 {
     let open = levels.open.pop()?;
@@ -328,7 +351,11 @@ fn step<'b, T: TakesTrees<'b>>(
 ) -> Option<&'b str>
     requires total { total ≤ 67108864 }
     requires within { levels.old.open.items ≢ [] }
-    ensures steps { IfSome result (λ rest. (deepest : ℕ) (root : List ℕ) (begun : T) → StandsAt T.takes total deepest root begun levels.old text.now reader.old.taker (run_text reader.old.run) → StandsAfter T.takes total deepest root begun levels.new rest.now reader.new.taker (run_text reader.new.run)) }
+    ensures steps { IfSome result (λ rest. (deepest : ℕ) (root : List ℕ) (begun : T)
+        → StandsAt T.takes total deepest root begun levels.old text.now reader.old.taker
+        (run_text reader.old.run)
+        → StandsAfter T.takes total deepest root begun levels.new rest.now reader.new.taker
+        (run_text reader.new.run)) }
     ensures shorter { IfSome result (λ rest. length rest.now < length text.now) }
 {
     let Some(markup) = after_byte(text, b'<') else {
@@ -355,7 +382,10 @@ fn past_elements<'b, T: TakesTrees<'b>>(
     text: &'b str,
 ) -> Option<&'b str>
     requires { total ≤ 67108864 }
-    ensures { IfSome result (λ rest. (deepest : ℕ) (root : List ℕ) (begun : T) → StandsAt T.takes total deepest root begun levels.old text.now reader.old.taker (run_text reader.old.run) → Finished T.takes total deepest root begun rest.now reader.new.taker) }
+    ensures { IfSome result (λ rest. (deepest : ℕ) (root : List ℕ) (begun : T)
+        → StandsAt T.takes total deepest root begun levels.old text.now reader.old.taker
+        (run_text reader.old.run)
+        → Finished T.takes total deepest root begun rest.now reader.new.taker) }
 {
     let inside = start_tag(reader, levels, total, text)?;
     let mut rest = inside;
@@ -393,7 +423,8 @@ fn take_root<'b, T: TakesTrees<'b>>(
 fn take_text<'b, T: TakesTrees<'b>>(reader: &mut Reader<'b, T>, text: &'b [u8]) -> Option<()>
     requires total { length text.now ≤ 67108864 }
     requires run { run_text reader.old.run ≡ [] }
-    ensures { IfSome result (λ _. (h : RawTrees) × XmlText text.now h × Takes T.takes reader.old.taker (events (stripped h)) reader.new.taker) }
+    ensures { IfSome result (λ _. (h : RawTrees) × XmlText text.now h
+        × Takes T.takes reader.old.taker (events (stripped h)) reader.new.taker) }
 {
     let front = characters(text);
     if front.len() != text.len() {
@@ -413,7 +444,8 @@ fn take_text<'b, T: TakesTrees<'b>>(reader: &mut Reader<'b, T>, text: &'b [u8]) 
 /// and nothing in it is unusual. The pieces last as long as the text and the arena. Takes at most 64 MiB of text.
 pub fn take_document<'b, T: TakesTrees<'b>>(arena: &'b Bump, text: &'b [u8], taker: T) -> Option<T>
     requires { length text.now ≤ 67108864 }
-    ensures { IfSome result (λ new. (h : RawTrees) × XmlText text.now h × Takes T.takes taker (events (stripped h)) new) }
+    ensures { IfSome result (λ new. (h : RawTrees) × XmlText text.now h
+        × Takes T.takes taker (events (stripped h)) new) }
 {
     let mut reader = Reader {
         arena,
