@@ -156,9 +156,10 @@ class Judges:
         return wrong or (self.transformed(texts, answer) if answer.status == 0 else None)
 
     def transformed(self, texts, answer):
-        """`run` by `xsltproc`, of a document without attributes, comments and texts of white space."""
+        """`run` by `xsltproc`, of a document without attributes, comments and texts of white space. Patterns with `//` behind a
+        step are left out: libxslt takes `*//a` to fit the document's element, and `node()//a` to fit no `a` in an element."""
         tree = documents.plainly(lambda: documents.tree_of(texts["D"]))
-        if tree is None or b"method" in texts["S"]:
+        if tree is None or re.search(rb"method|match\s*=\s*[\"'][^\"']*[^\"'|\s/]\s*//", texts["S"]):
             return None
         self.caller.put("plain.xml", documents.printed(tree).encode())
         other = self.caller.call("--nonet", "--maxdepth", "10000", "S", "plain.xml", program="/usr/bin/xsltproc")
