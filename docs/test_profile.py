@@ -26,8 +26,8 @@ SECTIONS = {
     "tc_path": "Selects, values, patterns and tests",
 }
 # the variants of Status, each with a word of what README says it means
-MEANINGS = dict(Yes="yes", No="no", Usage="command", Refused="form")
-MEANINGS |= dict(Limit="limit", ReadFault="read", WriteFault="written", NoMemory="memory")
+MEANINGS = dict(Yes="yes", No="no", Usage="command", Refused="form", Limit="limit")
+MEANINGS |= dict(ReadFault="read", WriteFault="written", NoMemory="memory")
 
 
 def tables(text, head):
@@ -130,7 +130,9 @@ class Calls(unittest.TestCase):
         self.assertIn(f"\n```\n{line}\n```\n", section("Words"))
 
     def test_statuses_of_readme(self):
-        (rows,) = tables(README, "status | means | prints")
+        (commands,) = tables(README, "arguments | what it does | 0, yes | 1, no")
+        yes, no = (" ".join(row[column] for row in commands) for column in (2, 3))
+        rows = [["0", "yes", yes], ["1", "no", no], *tables(README, "status | means | prints")[0]]
         variants = re.findall(r"^    (\w+),$", STATUSES, re.M)
         self.assertEqual([number for number, _, _ in rows], [str(number) for number in range(len(variants))])
         self.assertEqual([variant for variant, row in zip(variants, rows) if MEANINGS[variant] in row[1]], variants)
