@@ -95,7 +95,7 @@ if [ "$times" = twice ]; then
   twice 'prefixes 10000 500000' 'prefixes 20000 1000000' run S D
   twice 'schema_prefixes 10000 500000' 'schema_prefixes 20000 1000000' valid I D
   twice 'names 500000' 'names 1000000' valid I D
-  twice 'attributes 4000000' 'attributes 8000000' valid I D
+  twice 'attributes 3500000' 'attributes 7000000' valid I D
   twice 'chains 250' 'chains 500' valid --stream 65536 I D
   twice 'others 500' 'chains 500' valid --stream 65536 I D
   for part in text white comment cdata value name empty references sections comments; do
@@ -220,8 +220,8 @@ row '0 valid' 'subsets 250 2000000' valid I D
 row '0 valid' 'long_namespace 40000 500000' valid I D
 row '0 valid' 'references 1000000' valid I D
 row '3 refused D malformed at ' 'declarations 20000 40000' valid I D
-row '3 refused D malformed at ' 'declarations 20000 40000' valid --stream 65536 I D
-row '0 valid' 'attributes 8000000' valid I D
+row '4 limit tag 65536' 'declarations 20000 40000' valid --stream 65536 I D
+row '0 valid' 'attributes 7000000' valid I D
 row '0 valid' 'chains 500' valid --stream 65536 I D
 row '0 valid' 'others 500' valid --stream 65536 I D
 
