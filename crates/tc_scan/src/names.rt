@@ -97,11 +97,11 @@ fn ascii_name(text: &str) -> Option<(&str, &str)>
     ensures { IfSome result (λ r. xml.NcNameAt text.now r.0.now r.1.now) }
 {
     let bytes = text.as_bytes();
-    let count = ascii_len(text);
-    if count == 0 || count >= bytes.len() {
+    if bytes.is_empty() || !is_ncname_start(char::from(bytes[0])) {
         return None;
     }
-    if bytes[count] >= 128 || !is_ncname_start(char::from(bytes[0])) {
+    let count = ascii_len(text);
+    if count == 0 || count >= bytes.len() || bytes[count] >= 128 {
         return None;
     }
     Some(text.split_at(count))
