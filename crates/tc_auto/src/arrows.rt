@@ -1,4 +1,6 @@
 // The edges of a schema by what they take.
+// Edges are told twice, by state and by what they take, since sets of pairs are put leaf by leaf and runs go
+// state by state.
 ghost use Rattle.std.specs.Prelude.{◌≡◌, ◌<◌, ◌+◌, ◌^◌, IfOk, OnOk, length};
 ghost use Rattle.tc_auto.specs.Arrows.{AreArrows, AreArrowsOf, Gains, IsFrom, IsSome};
 ghost use Rattle.tc_auto.specs.declared.arrows.Arrow.{Arrow};

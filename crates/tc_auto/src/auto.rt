@@ -1,4 +1,6 @@
 // Automata of schemas.
+// These are content automata. An `Auto` borrows the element patterns of its grammar, for `allows`, and so has
+// the grammar's lifetime.
 ghost use Rattle.std.specs.Prelude.{◌≡◌, ◌<◌, ◌≤◌, ◌+◌, ◌^◌, ℕ, All, length, slice_index};
 ghost use Rattle.tc_auto.specs.Arrows.{AreWithin};
 

@@ -1,4 +1,5 @@
 // Names of name classes, alternatives of patterns, and texts in them.
+// `text` counts where it is written, also beside `notAllowed`.
 ghost use Rattle.std.specs.Prelude.{◌≡◌};
 ghost use Rattle.std.specs.List.{list_any};
 ghost use Rattle.tc_model.specs.Grammars.{have_text, has_text, in_class, in_some_class};

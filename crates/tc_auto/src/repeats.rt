@@ -1,4 +1,5 @@
 // Repetition: the first edges of a pattern again from where it accepts, each edge once.
+// Where an edge may already stand is looked up in a table of hints; nothing depends on what it says.
 ghost use Rattle.std.specs.Prelude.{◌≡◌, ◌==◌, filter, IfOk, IsTrue, OnOk};
 ghost use Rattle.std.specs.List.{Contains};
 ghost use Rattle.tc_auto.specs.Repeats.{Gains, IsThis, LeadsFrom, LeadsFromSome};

@@ -1,4 +1,6 @@
 -- Where bytes stop to be the text of a certificate: the first line that isn't as it must be, given those before it.
+-- Whether the text can still be completed isn't looked at, so each text that is no certificate's has one
+-- first faulty line.
 use Rattle.std.specs.Prelude.{◌≡◌, ◌≤◌, ◌+◌, ℕ, List, [], ◌++◌, length, flat_map, map, All, codes}
 use Rattle.tc_model.specs.declared.lists.TreeLine.{TreeLine}
 use Rattle.tc_model.specs.declared.lists.HedgeLine.{HedgeLine}

@@ -1,4 +1,6 @@
 // Whether a certificate's text is one, and its numbers fit, in memory for one row.
+// A few hundred bytes of version 2 may mean rows of millions of numbers. So a text is gone through here
+// before it is unfolded, and only what fits is to be: at most 8,000 rows of 8,192 numbers.
 ghost use Rattle.std.specs.Prelude.{◌≡◌, ◌≤◌, ◌↔◌, ℕ, List, [], length, IfOk, IfErr, IsTrue, MatchOption, MatchResult};
 ghost use Rattle.tc_model.specs.declared.lists.TreeLine.{TreeLine};
 ghost use Rattle.tc_model.specs.declared.lists.CertData.{CertData};

@@ -1,4 +1,6 @@
 // The text of a certificate in version 2, from either version.
+// A text of version 2 is its own upgrade and goes out as it was read. Where no kind of line has two rows the
+// versions differ in their first line alone.
 ghost use Rattle.std.specs.Prelude.{◌≤◌, IfOk, IfErr, MatchBool, length};
 ghost use Rattle.tc_cert.specs.Readings.{BeginsByChanges, IsNotUpgraded, IsUpgraded};
 

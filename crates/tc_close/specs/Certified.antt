@@ -1,4 +1,6 @@
 -- The certificate of a stylesheet that is safe: exactly the rows of live trees and of live lists of trees, and exactly the sets of pairs in them.
+-- Too long is told by what is there: different sets of pairs whose lines alone pass the limit, before the
+-- data is made; or the certificate's own text.
 use Rattle.std.specs.Prelude.{◌≡◌, ◌<◌, ◌↔◌, ℕ, List, length, flat_map, All}
 use Rattle.std.specs.List.{Contains}
 use Rattle.tc_base.specs.declared.limits.TheConstants.{LONGEST_FILE}

@@ -1,4 +1,6 @@
 -- Triples of two schemas and a stylesheet: there is one, and all of them have the same rows.
+-- A triple isn't determined by its texts in all that it holds, since tables may hold anything for what is
+-- never asked; but its rows are. So the clauses of `typecheck` speak of the two schemas and the stylesheet.
 use Rattle.std.specs.Prelude.{◌≡◌, ◌↔◌, ℕ}
 use Rattle.tc_model.specs.Chains.{Tree}
 use Rattle.tc_model.specs.Grammars.{Grammar, IsGrammar}

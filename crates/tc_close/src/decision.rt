@@ -1,4 +1,7 @@
 // Whether a stylesheet is safe between two schemas, and a least counterexample where it isn't.
+// Closure, verdict and tree are one public call, and not a value that later calls take, since each of them
+// would have to ask that the rows are still those of the closure. What a certificate needs is a second call
+// beside it (`prove`).
 ghost use Rattle.std.specs.Prelude.{◌≡◌, ◌<◌, ◌≤◌, ℕ, [], IfOk, IfErr};
 ghost use Rattle.tc_beh.specs.Machines.{IsMachine, IsMachineOf};
 ghost use Rattle.tc_close.specs.Decisions.{IsDecided, IsCloseCause, KeepsCounts};

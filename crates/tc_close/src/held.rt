@@ -1,4 +1,7 @@
 // Rows over a machine, held by their numbers.
+// They lie in an `indexmap` set, each as a vector of numbers, which looks them up and keeps the order in
+// which they came. A row is looked up by its numbers, since rooms of equal numbers stand for equal rows
+// (`law_of_rooms` of `tc_beh`).
 ghost use Rattle.std.specs.Prelude.{◌≡◌, ◌<◌, ◌≤◌, [], length, All, IfOk, true};
 ghost use Rattle.tc_beh.specs.Held.{set_at};
 ghost use Rattle.tc_beh.specs.Machines.{IsMachineOf, IsShapeOf};

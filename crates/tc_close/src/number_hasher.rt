@@ -1,4 +1,6 @@
 // A hasher of lists of numbers.
+// It takes each number in one multiplication, where the kit's hashers take its bytes, and answers its state
+// as it is, since the set folds the two halves itself.
 ghost use Rattle.std.specs.Prelude.{◌≡◌, slice_index};
 ghost use Rattle.std.specs.Int.{w32, from_le_bytes};
 ghost use Rattle.tc_close.specs.Hashing.{stepped};

@@ -1,4 +1,6 @@
 // Rows over a machine, where elements of symbols alike are worked out once.
+// They are worked out once around each list of trees; the others are told from a table of the list that was
+// tried last, so that rows come on in the same order.
 use crate::held::HeldRows;
 use crate::over::Over;
 use crate::wraps::Wraps;

@@ -1,4 +1,6 @@
 // Which triples rows stand for.
+// The public call speaks of every triple that the machine stands for. Inside, rows stand for a set of
+// triples, which a ghost member of a type parameter names and the call chooses.
 use std::marker::Brand;
 
 /// Which triples rows stand for: a proof picks them where it knows the machine.

@@ -1,5 +1,8 @@
 -- The declarations of elements in the text of a document type definition: `DtdText bytes declarations` (XML 1.0, Fifth Edition, 2.8 and 3.2).
 -- The modules DtdTextContents and DtdTextDeclarations have the productions that it rests on.
+-- Every phrase has one relation to an outcome: read, or refused with a cause where a construct stands that
+-- isn't read. A text to which none is related is malformed. So no text is both read and refused, and the
+-- first construct that is reached decides.
 use Rattle.std.specs.Prelude.{◌≡◌, ℕ, List, [], ◌∷◌, ◌++◌, map, length, bytes_eq}
 use Rattle.std.specs.List.{IsDistinct, Contains}
 use Rattle.tc_model.specs.Names.{IsChars}

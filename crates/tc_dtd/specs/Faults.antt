@@ -1,4 +1,5 @@
 -- What a fault says of the text that is refused.
+-- The place of malformed is left open, as in documents; the other reasons have one place.
 use Rattle.std.specs.Prelude.{◌≡◌, ◌≤◌, ◌-◌, ℕ, List, map, length, bytes_eq}
 use Rattle.std.specs.List.{IsDistinct}
 use Rattle.tc_model.specs.XmlTextRefusals.{unsupported, too_deep}

@@ -1,4 +1,6 @@
 -- Cover counts: how many rows there are of trees and of lists of trees that are live for the first schema, and lists of rows that hold all.
+-- They count what the second schema makes of what is live for the first, so `include A B` and `include B A`
+-- count differently. A name that neither mentions counts by its symbol.
 use Rattle.std.specs.Prelude.{◌<◌, ℕ, List, length, Contains}
 use Rattle.tc_model.specs.Trees.{Trees}
 use Rattle.tc_model.specs.Chains.{Tree}

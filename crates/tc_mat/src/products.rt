@@ -1,4 +1,5 @@
 //! The composition of two sets of pairs, by the words of the left that aren't zero.
+//! A product whose left is the set of each number with itself is a copy of its right.
 
 ghost use Rattle.std.specs.Prelude.{◌≡◌, ◌≢◌, ◌⊎◌, ◌↔◌, ℕ, ◌+◌, ◌*◌, ◌/◌, ◌%◌, ◌^◌, ◌<◌, ◌≤◌, length, IsTrue};
 ghost use Rattle.std.specs.Int.{bit_at};

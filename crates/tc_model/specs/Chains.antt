@@ -1,4 +1,6 @@
 -- Nodes of a document, as chains of whole trees, and what stands in and below them (XPath 1.0, 5).
+-- A chain may have any trees one under the other, also where none is a child of the one before. The
+-- definitions walk only those in which each is, and the laws hold of all.
 use Rattle.std.specs.Prelude.{ℕ, List, [], ◌∷◌, ◌++◌, Bool, map, filter, Option, Some, None}
 use Rattle.tc_model.specs.Names.{ExpandedName}
 use Rattle.tc_model.specs.Trees.{Trees, none, text, element}

@@ -2,6 +2,7 @@
 -- CompactSyntaxPatterns have the phrases. The productions are those of OASIS, RELAX NG Compact Syntax (2002), which ISO/IEC 19757-2, Annex C,
 -- has too: topLevel, grammarContent, start, define and assignMethod are here. Which of them are read, that is those that tell elements and text,
 -- is this project's choice.
+-- A text without definitions is a schema. A text that is one pattern defines `start` at place 0.
 use Rattle.std.specs.Prelude.{Bool, false, ◌≡◌, ℕ, suc, ◌+◌, List, [], ◌∷◌, ◌++◌, length, Some, codes}
 use Rattle.tc_model.specs.Names.{IsChars}
 use Rattle.tc_model.specs.RawTrees.{Bound}

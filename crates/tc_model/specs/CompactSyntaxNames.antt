@@ -1,6 +1,9 @@
 -- Keywords, declarations and name classes in compact syntax (OASIS, RELAX NG Compact Syntax, 2002, and ISO/IEC 19757-2, Annex C: keyword, identifier,
 -- identifierOrKeyword, decl, nameClass, name and exceptNameClass). That a literal is one segment without the escape of a character, and that
 -- nothing is inherited, is this project's choice. What each phrase leaves of the tokens stands last.
+-- `namespace xml = ..` is malformed, since that prefix is bound in advance and each is bound once; other
+-- prefixes may be bound to its namespace. What may not be bound is malformed at the first word of its
+-- declaration. `datatypes` has no effect, not even a check of its namespace.
 use Rattle.std.specs.Prelude.{◌≡◌, ◌≢◌, ℕ, suc, Bool, List, [], ◌∷◌, Option, None, Some, bytes_eq, codes, if◌then◌else◌}
 use Rattle.std.specs.List.{list_any}
 use Rattle.tc_model.specs.Names.{ExpandedName, xmlns_uri}

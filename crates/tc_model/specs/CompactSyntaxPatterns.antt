@@ -1,6 +1,11 @@
 -- Patterns in compact syntax (OASIS, RELAX NG Compact Syntax, 2002, and ISO/IEC 19757-2, Annex C: pattern). Which of them are read, and that of an
 -- attribute nothing but matching braces is asked, is this project's choice. What each phrase leaves of the tokens stands last; braces and parentheses stand at most so deep.
 -- Where `others` says so, a datatype or a value as a pattern is read too, as `(empty, empty)` in its place would be.
+-- In the braces of an attribute braces alone count: a parenthesis or an escape means nothing there, a literal
+-- or a comment is skipped, one in three quotes with its line ends and braces too. A quote that isn't closed
+-- on its line is no literal, and so in no schema. The prefixes in the attribute's name class must be bound.
+-- `(empty, empty)` tells a schema that is good but for its data from one that nests too deep; its parentheses
+-- don't count.
 use Rattle.std.specs.Prelude.{◌≡◌, ◌≢◌, ℕ, suc, Bool, true, false, ◌||◌, ◌==◌, List, [], ◌∷◌, Option, None, Some, IsTrue, bytes_eq, codes, if◌then◌else◌}
 use Rattle.tc_model.specs.RawTrees.{Bound}
 use Rattle.tc_model.specs.CompactSyntaxTrees.{SyntaxClass, SyntaxPattern, empty, not_allowed, text, attribute, ref, element, mixed, optional, zero_or_more, one_or_more, group, choice, interleave, SyntaxPatterns, no_more, more}

@@ -1,5 +1,8 @@
 -- Which texts are refused as schemas in compact syntax, why and where. Characters and tokens are looked at up to where reading stops: behind
 -- that place anything may stand, bytes that are no characters included.
+-- Tokens end before the first byte that is no character of XML, or before a literal between two quotes that
+-- isn't closed on its line, whose place is that line's end. Both matter only where reading comes there. In an
+-- attribute's text the end of the tokens is malformed.
 use Rattle.std.specs.Prelude.{◌≡◌, ℕ, ◌+◌, Bool, false, ◌||◌, ◌&&◌, ◌==◌, not, List, [], ◌∷◌, Option, None, Some, IsTrue, length, take, if◌then◌else◌}
 use Rattle.std.specs.List.{prefix_len}
 use Rattle.tc_base.specs.Characters.{is_white}

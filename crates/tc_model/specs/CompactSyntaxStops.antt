@@ -1,6 +1,13 @@
 -- Where the reading of a schema in compact syntax stops. A relation `PhraseStops end .. tokens refusal` says that the phrase at the front of
 -- these tokens is read up to a token with which it can't go on, and how that is refused. What stands behind that place isn't looked at but
 -- where the reason depends on it: `grammar { }` is a part of a pattern where it goes on as one.
+-- A grammar in braces that a connector or a suffix follows is one within a pattern, refused at its word. The
+-- first token with which nothing that is read goes on gives reason and place, for malformed too: an escape or
+-- an annotation is named wherever it stands; otherwise it is what should stand there: a pattern (`data`,
+-- `list`, `external`, `grammar`, `parent`, `triple-quote`, `value`), a definition (`include`), a namespace
+-- name (`inherit`, `escape`, `triple-quote`, and `concatenation` at a `~` behind it). A datatype's name or a
+-- literal anywhere else is malformed. A declaration that may not bind is malformed at its first byte, once
+-- its literal has been read. Of two phrases that nest too deep the first is named.
 use Rattle.std.specs.Prelude.{◌≡◌, ◌≢◌, ◌⊎◌, ℕ, suc, Bool, true, false, List, [], ◌∷◌, None, Some, codes}
 use Rattle.tc_base.specs.declared.reasons.Why.TheVariants.{NestedGrammar}
 use Rattle.tc_model.specs.RawTrees.{Bound}

@@ -2,6 +2,8 @@
 -- CName, nsName, literal). Every character for which some phrase asks is ASCII, so no byte of a
 -- longer character is ever taken for one. A relation `PhraseAt bs value after` says that this phrase stands at the front of the
 -- bytes, what it means, and what follows it.
+-- A byte order mark may begin a text, and counts in places. A carriage return alone ends a line, and so a
+-- comment. Of `""'x'` the first two quotes are an empty literal.
 use Rattle.std.specs.Prelude.{◌≡◌, ℕ, Bool, ◌||◌, not, ◌==◌, List, [], ◌∷◌, ◌++◌, take, drop, IsTrue, codes, encode_utf8}
 use Rattle.std.specs.List.{prefix_len, list_all}
 use Rattle.tc_base.specs.Characters.{is_white}

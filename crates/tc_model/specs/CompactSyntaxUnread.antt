@@ -1,5 +1,9 @@
 -- What of the compact syntax isn't read, and what is refused where nothing that is read stands (OASIS, RELAX NG Compact Syntax, 2002, and
 -- ISO/IEC 19757-2, Annex C). Which of its constructs are read is this project's choice.
+-- `\x{` is found where tokens are read, in a literal too, but not in comments nor in an attribute's braces;
+-- it has a reason of its own wherever it is reached before anything else is wrong. A literal in three quotes
+-- isn't read, and an escape in it is found before that is told. An escape in a literal that isn't closed on
+-- its line is told at its backslash.
 use Rattle.std.specs.Prelude.{◌≡◌, ◌≢◌, ℕ, ◌+◌, ◌<◌, Bool, true, false, List, [], ◌∷◌, Option, None, Some, IsTrue, length, bytes_eq, codes, if◌then◌else◌}
 use Rattle.tc_base.specs.declared.reasons.Why.{Why}
 use Rattle.tc_base.specs.declared.reasons.Why.TheVariants.{DataPattern, ValuePattern, ListPattern, ExternalPattern, Include, NestedGrammar, ParentReference, InheritedNamespace, Annotation, Escape, TripleQuote, Concatenation}

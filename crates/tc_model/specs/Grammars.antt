@@ -1,4 +1,5 @@
 -- Schemas: name classes, patterns and element patterns (RELAX NG Specification, OASIS 2001, 5 and 6, whose numbers are meant by "RELAX NG").
+-- In a well-formed schema a choice of name classes isn't empty, like a choice of patterns.
 use Rattle.std.specs.Prelude.{◌≢◌, ℕ, zero, suc, ◌≤◌, List, length, Bool, true, false, ◌&&◌, ◌||◌, not, IsTrue, bytes_eq, Option, None, slice_get, All}
 use Rattle.std.specs.List.{list_any}
 use Rattle.tc_model.specs.Names.{ExpandedName, same_name, IsName, IsNamespaceName}

@@ -1,4 +1,8 @@
 -- Letters: what path states see of a tree. They see the symbol of an element, or that it is a text, and which predicates hold there.
+-- Marks are a number, so that a letter is two numbers, by which tables are looked up, letters come in the
+-- order of numbers, and that they are few is one inequality. The tree that stands for a kind and the kind of
+-- a tree need the symbols alone; they stand here, with predicates that aren't looked at, since whoever cites
+-- one cites the others.
 use Rattle.std.specs.Prelude.{◌≡◌, ℕ, ◌+◌, ◌*◌, ◌<◌, ◌^◌, ◌==◌, List, [], ◌∷◌, length, map, Bool, true, ◌&&◌, if◌then◌else◌, codes}
 use Rattle.std.specs.Int.{bit_at}
 use Rattle.tc_model.specs.Trees.{none}

@@ -1,4 +1,5 @@
 -- Live trees and lists of trees: those that each content by itself lets stand. All parts of valid documents are live.
+-- A live tree has lawful names and texts. This changes no count of rows: each symbol has a lawful name.
 use Rattle.std.specs.Prelude.{◌≡◌, ℕ, ◌≤◌, length, true}
 use Rattle.tc_model.specs.Trees.{Trees, none, text, element, AreLawful, IsNormal}
 use Rattle.tc_model.specs.Chains.{Tree, an_element, a_text}

@@ -1,4 +1,5 @@
 -- What bodies put out, worked out by states: a function on the trees below a node, which sees nothing above them but a state.
+-- This is a deterministic top-down tree transducer with look-ahead.
 use Rattle.std.specs.Prelude.{◌≡◌, ℕ, List, [], ◌∷◌, Bool, true, false, ◌&&◌, ◌||◌, not, cond, Option, Some, None, is_some}
 use Rattle.tc_model.specs.Trees.{Trees, none, text, element}
 use Rattle.tc_model.specs.Chains.{Tree, an_element, a_text, Chain, top, under, Node, one, node_of, children, string_value}

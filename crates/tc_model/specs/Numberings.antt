@@ -1,6 +1,8 @@
 -- The numbers of a stylesheet's predicates, moves and looks, and of the path states on which they go. They are in the order of the stylesheet, but for
 -- the moves of built-in rules, which come first, and the looks of predicates, which come last: its rules, each with its pattern and then its body, and
 -- then the named bodies; in a body the instructions as they stand, each before those inside it, and in a branch the test before the body.
+-- What is done on the nodes that a move selects is a job (`Job`), a mode of templates or a for-each, and not
+-- one number for both, which together may pass 32 bits.
 use Rattle.std.specs.Prelude.{◌≡◌, ℕ, zero, suc, ◌+◌, ◌^◌, List, [], ◌∷◌, ◌++◌, length, map, filter, flat_map, Bool, ◌&&◌, nat_eq}
 use Rattle.tc_model.specs.Sheets.{Steps, no_step, step, Path, no_alternative, alternative, Test, always, never, has, negated, all_of, any_of, Tests, no_test, test, MatchPattern, root_pattern, steps_pattern, Body, no_instruction, put_text, put_element, copy, apply, call, for_each, value, value_of_self, choose, Branches, otherwise, branch, Sheet}
 use Rattle.tc_model.specs.Meaning.{all_children}
@@ -137,6 +139,9 @@ letters_of_elements symbols predicates =
     flat_map (λ k. map (λ marks. record { kind = of_symbol k; marks = marks }) (numbers_below (2 ^ length predicates))) (numbers_below (symbol_count symbols))
 
 -- states in the order in which they are first reached: after those found so far come those to which these lead, state by state and letter by letter
+-- The states of a path automaton, determinised. They go by rounds, since a definition has to tell an order;
+-- code that goes state by state is proved to give the same one. Which states are reached depends on no order,
+-- and `all` says that no round finds more.
 module _ (counts : State → Bool) (next : State → Letter → State) (letters : List Letter) where
   abbrev pub one_round : List State → List State
   one_round states = each_once same_state (states ++ filter counts (flat_map (λ s. map (next s) letters) states))

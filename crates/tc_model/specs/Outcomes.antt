@@ -1,4 +1,5 @@
 -- What is put out, and what it costs.
+-- Work and nesting count the body of the root too: the rule of the root, or the built-in rule, is one body.
 use Rattle.std.specs.Prelude.{ℕ, ◌+◌, max, List, [], ◌∷◌}
 use Rattle.tc_model.specs.Names.{ExpandedName}
 use Rattle.tc_model.specs.Trees.{Trees, none, text, element, beside}

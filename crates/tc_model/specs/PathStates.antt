@@ -1,5 +1,6 @@
 -- Path states: how far the steps of paths have come, going down from a node. A state has an item for each number of steps that may have been
 -- taken of each alternative, all but the last step.
+-- It is a state of a path automaton, determinised: the places that steps can have reached at a node.
 use Rattle.std.specs.Prelude.{List, [], ◌∷◌, Bool, true, false, ◌&&◌, ◌||◌, not}
 use Rattle.std.specs.List.{list_any}
 use Rattle.std.specs.Cmp.Lexicographic.{pointwise}

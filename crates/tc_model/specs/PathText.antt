@@ -1,5 +1,7 @@
 -- What the texts of selects, values, patterns and tests mean where these prefixes are in scope (XSLT 1.0, 5.2, 5.4, 7.6.1, 8, 9, 11.3, which use XPath 1.0).
 -- In each, parentheses and brackets together stand within one another at most 2,000 deep.
+-- Selects of attributes alone are for `xsl:copy-of`: each alternative ends in an attribute step.
+-- `@a|comment()` selects nothing either, but isn't one of them.
 use Rattle.std.specs.Prelude.{ℕ, Bool, false, List, [], ◌∷◌}
 use Rattle.tc_model.specs.RawTrees.{Bound}
 use Rattle.tc_model.specs.Sheets.{Path, Test, Tests, Body, no_instruction, value, value_of_self}

@@ -21,6 +21,9 @@ abbrev pub IsResultOf : Sheet → Trees → Trees → Type 0
 IsResultOf s doc result = (outcome : Outcome) × Transforms s doc outcome × (result ≡ normal_form outcome.out)
 
 -- every valid document has a result, and it is valid
+-- A result is asked for, not only that whatever results is valid: a relation without a result must not make
+-- anything safe. Each document of a well-formed stylesheet has exactly one result (`law_of_results`), so
+-- there both readings agree (`law_of_safety`).
 abbrev pub IsSafe : Grammar → Grammar → Sheet → Type 0
 IsSafe input output s = (doc : Trees) → IsValid input doc → (result : Trees) × IsResultOf s doc result × IsValidOutput output result
 

@@ -1,4 +1,6 @@
 -- How many states a schema has, as its limit counts them: one for each text and each element of a pattern and one for the start, and pairs of states for an interleave.
+-- The count is a function on patterns, which needs no automaton; limits on states cite it. That automata have
+-- as many is a law (`law_of_state_counts` of `tc_auto`).
 use Rattle.std.specs.Prelude.{◌≡◌, ℕ, ◌+◌, ◌-◌, ◌*◌, sum_by}
 use Rattle.tc_model.specs.Grammars.{Pattern, Patterns, Grammar, empty, not_allowed, text, ref, group, choice, interleave, one_or_more, no_more, more}
 use Rattle.tc_model.specs.States.{input, output, state_count}

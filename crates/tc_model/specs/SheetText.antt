@@ -164,6 +164,9 @@ abbrev pub IsUndefined : List Template → StandingCall → Type 0
 IsUndefined templates c = IsDefined templates c.call → ⊥
 
 -- a call in a named template: of that template, or of one that leads back to it
+-- That calls have no cycle is said here by what reaches itself, since the first such call is refused by its
+-- name and place. A well-formed stylesheet says the same by an unfolding: each named body becomes a body
+-- without calls. That the one gives the other is proved (`law_of_sheets` of `tc_sheet`).
 abbrev pub IsLoop : List Template → StandingCall → Type 0
 IsLoop templates c = (n : ExpandedName) × (c.template.name ≡ Some n) × ((c.call.name ≡ n) ⊎ Reaches templates c.call.name n)
 

@@ -2,6 +2,7 @@
 -- 7.1, on elements and text. That 4.18 is tried on all definitions, 4.19 on those that are reached, and 7.1.5 on the schema as it is written,
 -- before 4.20 and 4.21 take `notAllowed` and `empty` away, is this project's choice, and so are the places and the order of the faults; those
 -- of attributes aren't looked at.
+-- So `start = a, empty` is `bad-start`.
 use Rattle.std.specs.Prelude.{◌≡◌, ◌≤◌, ℕ, Bool, true, false, ◌&&◌, List, [], ◌∷◌, ◌++◌, Option, None, Some, ◌⊎◌, IsFalse, bytes_eq, if◌then◌else◌}
 use Rattle.std.specs.List.{list_any}
 use Rattle.tc_model.specs.CompactSyntaxTrees.{SyntaxClass, of_name, of_namespace, any_name, one_of, SyntaxClasses, no_class, class, SyntaxPattern, not_allowed, ref, element, choice, Joins, plain, by_choice, by_interleave, Definition, Syntax}

@@ -1,5 +1,6 @@
 -- What stands in the patterns of a schema as it is written: its definitions, joined as the RELAX NG Specification (OASIS 2001), 4.17, joins
 -- them, its parts, and what is reached from `start`.
+-- Several definitions of a name become one list, so one node and one level. `mixed` has its `text` first.
 use Rattle.std.specs.Prelude.{◌≡◌, ℕ, Bool, true, false, List, [], ◌∷◌, ◌++◌, filter, Option, None, Some, ◌⊎◌, bytes_eq, if◌then◌else◌}
 use Rattle.std.specs.List.{flat_map, list_any}
 use Rattle.tc_model.specs.CompactSyntaxTrees.{SyntaxClass, SyntaxPattern, empty, not_allowed, text, attribute, ref, element, mixed, optional, zero_or_more, one_or_more, group, choice, interleave, SyntaxPatterns, no_more, more, Joins, plain, by_choice, by_interleave, Definition, Syntax}

@@ -1,4 +1,7 @@
 -- The states of patterns and of schemas: their numbers, the edges between them, those that accept, and what trees lead from one to another.
+-- These are content automata, that of the positions of a pattern and products for interleave. A run takes an
+-- edge for every text, also for one of white space alone; what leads where for the outputs of stylesheets
+-- (`Leads`) lets such a text stay where it is.
 use Rattle.std.specs.Prelude.{◌≡◌, ◌<◌, ◌≤◌, ◌⊎◌, ℕ, zero, suc, ◌+◌, ◌-◌, ◌*◌, List, [], ◌∷◌, length, Bool, false, ◌==◌, ◌||◌, Some, IsTrue}
 use Rattle.tc_model.specs.Names.{ExpandedName}
 use Rattle.tc_model.specs.Trees.{Trees, none, text, element, is_white_space_only, normal_form}

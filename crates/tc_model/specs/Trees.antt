@@ -1,4 +1,8 @@
 -- Trees of elements and texts, and their normal form.
+-- Empty texts aren't lawful, yet they are treated: the normal form drops them, and an element whose one child
+-- is an empty text is printed with two tags. The normal form goes in two steps, as the standards tell it.
+-- That in it no two texts stand side by side and none is white space alone (`IsApart` in `TreesApart`) is the
+-- same, as proofs show.
 use Rattle.std.specs.Prelude.{◌≡◌, ℕ, ◌+◌, List, ◌++◌, Bool, if◌then◌else◌}
 use Rattle.std.specs.List.{list_all}
 use Rattle.tc_base.specs.Characters.{is_white}

@@ -1,4 +1,6 @@
 -- Elements and their content in an XML text (XML 1.0, Fifth Edition, 3 and 3.1).
+-- The place of a text is that of the first byte of its run, be it of an empty CDATA section: in
+-- `<a><![CDATA[]]><!--c-->x</a>` the text stands at 3.
 use Rattle.std.specs.Prelude.{◌≡◌, ◌⊎◌, ℕ, suc, Bool, List, [], ◌∷◌, ◌++◌, codes}
 use Rattle.tc_model.specs.Names.{ExpandedName}
 use Rattle.tc_model.specs.RawTrees.{Attribute, Bound, RawTrees, none, text, element}

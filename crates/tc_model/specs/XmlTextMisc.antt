@@ -1,4 +1,5 @@
 -- What stands around the root element of an XML text: the XML declaration, comments, processing instructions, a doctype (XML 1.0, Fifth Edition, 2.5 to 2.8).
+-- A public identifier takes any character but its quote, more than XML 1.0 allows.
 use Rattle.std.specs.Prelude.{◌≡◌, ◌⊎◌, ℕ, List, [], ◌∷◌, ◌++◌, IsTrue, IsFalse, codes, ◌||◌}
 use Rattle.std.specs.Str.{str_eq_ignore_ascii_case}
 use Rattle.tc_model.specs.XmlTextBytes.{BeginsWithWhite, after_white, UpTo, LiteralAt, EqualsAt}

@@ -1,6 +1,11 @@
 -- Where the reading of an XML text comes to a construct that isn't read, or to an element that stands too deep: what stands
 -- before that place is read, and what stands after it isn't looked at. A relation `PhraseRefuses bs .. at` says that the phrase
 -- at the front of these bytes is read up to `at`, where such a construct stands.
+-- So `<a>&nbsp;</b>` is unsupported at 3. A declaration or a prefix that is wrong is malformed once its tag
+-- was read. The encoding and the version stand at the first byte of their word. A text is read as far as its
+-- characters go, and what isn't whole within them is malformed: in `encoding="x`, a byte FF and a quote,
+-- reading stops in the literal before the encoding is known; a document in ISO-8859-1 is refused at the word
+-- of its encoding.
 use Rattle.std.specs.Prelude.{◌≡◌, ◌≢◌, ℕ, suc, false, List, ◌∷◌, ◌++◌, None, IsFalse, codes, length}
 use Rattle.tc_base.specs.declared.reasons.Why.{Why}
 use Rattle.tc_base.specs.declared.reasons.Why.TheVariants.{DoctypeSubset, EntityReference, Encoding, XmlSpace, XmlVersion}

@@ -1,4 +1,5 @@
 -- Namespace declarations and the names of a start tag (Namespaces in XML 1.0).
+-- A scope with one binding for a prefix means the same in any order.
 use Rattle.std.specs.Prelude.{◌≡◌, ℕ, Bool, ◌||◌, ◌&&◌, not, List, [], ◌∷◌, map, Option, None, Some, IsTrue, IsFalse, bytes_eq, codes, if◌then◌else◌}
 use Rattle.std.specs.List.{IsDistinct, list_all}
 use Rattle.tc_model.specs.Names.{ExpandedName, same_name, xmlns_uri}

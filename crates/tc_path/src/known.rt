@@ -1,4 +1,7 @@
 // The namespace names of prefixes that stand in a text (Namespaces in XML 1.0, 6.1).
+// Where a text has 32 tokens or more, one walk through the bindings in scope finds all that stand in it; in a
+// shorter text each prefixed name walks through them. Bindings that elements share can't be told to be the
+// same without going through them, so nothing is kept from one text to the next.
 ghost use Rattle.std.specs.Prelude.{◌≡◌, ◌∷◌, None, Some, List, IfOk, IfErr, OnOk, MatchOption, MatchBool, map};
 ghost use Rattle.tc_model.specs.RawTrees.{Bound};
 ghost use Rattle.tc_model.specs.Views.{bound};

@@ -1,4 +1,6 @@
 // Tags, and the default namespace that they declare (Namespaces in XML 1.0, 6.2).
+// A short end tag is put together on the stack and written at once; one with a prefix or a name of more than
+// 61 bytes piece by piece.
 ghost use Rattle.std.specs.Prelude.{◌≡◌, ◌≤◌, ◌++◌, codes, length, IfOk, IsTrue, OnOk, OnErr};
 ghost use Rattle.tc_io.specs.Faults.{Rose};
 ghost use Rattle.tc_io.specs.Sink.{Appended, WroteFront};

@@ -1,4 +1,6 @@
 -- What a refusal says of a text.
+-- It is two clauses: which readings there are not (`no`), and that reading stops at its place for its reason
+-- (`stands`).
 use Rattle.std.specs.Prelude.{ℕ, Bool, false, List}
 use Rattle.tc_model.specs.Views.{place}
 use Rattle.tc_model.specs.CompactSyntaxTrees.{Syntax}

@@ -1,4 +1,7 @@
 // Whole schemas.
+// The parser holds the arena, the scope and where the tokens end. Tokens are handed on, and what follows is
+// handed back, as a phrase's clause relates the two, so that looking ahead takes nothing back. What nests is
+// handed on as how much deeper it may go.
 ghost use Rattle.std.specs.Prelude.{◌≤◌, length, IfErr, IfOk};
 ghost use Rattle.tc_model.specs.CompactSyntax.{CompactSyntax};
 ghost use Rattle.tc_rnc.specs.Texts.{IsReadOrRefused};

@@ -1,4 +1,8 @@
 // Wildcards in name classes, and what is excepted from them.
+// The syntax of RELAX NG sets excepts no limit, and in an attribute any number of them means something. So
+// wildcards with a minus sign behind them are gathered in a loop, and put around the class behind them from
+// the last to the first; parentheses alone go deeper in calls. In an element's name class a third one is
+// `bad-except`, told before anything else walks it.
 ghost use Rattle.std.specs.Prelude.{◌≡◌, ℕ, List, IfOk, IfErr, MatchOption};
 ghost use Rattle.tc_model.specs.CompactSyntaxTokens as model;
 ghost use Rattle.tc_rnc.specs.Scopes.{scope_of};

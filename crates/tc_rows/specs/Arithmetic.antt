@@ -1,4 +1,6 @@
 -- Row arithmetic: the rows of no tree, of a text, of trees with one more behind them, and of an element around trees, worked out from rows alone, also from rows of no tree.
+-- These are the operations of a forest algebra. Whether an append or a wrap is live is said of its arguments,
+-- so that a dead one needn't be worked out.
 use Rattle.std.specs.Prelude.{◌≡◌, ◌<◌, ◌≤◌, ◌↔◌, ◌⊎◌, ◌+◌, ℕ, List, [], length, get_or, Bool, true, false, ◌&&◌, ◌||◌, cond, nat_lt, Some}
 use Rattle.std.specs.List.{Contains, list_any}
 use Rattle.tc_model.specs.Grammars.{ElementPattern, element_at, InClass, some_content_has_text}

@@ -1,4 +1,6 @@
 -- How many rows there are of live trees and of live lists of trees, and how many sets of pairs in them; and what a stylesheet may have for its rows to be worked out.
+-- A body, a branch or a named template is no instruction; the instruction that holds it is. Limits are said
+-- by more different rows than so many (`Pass`), which asks for no count.
 use Rattle.std.specs.Prelude.{◌≡◌, ◌<◌, ◌⊎◌, ◌+◌, ℕ, max, List, length, Some, slice_get, All}
 use Rattle.std.specs.List.{Contains}
 use Rattle.tc_model.specs.Trees.{Trees}

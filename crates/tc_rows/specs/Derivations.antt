@@ -1,4 +1,6 @@
 -- Rows that come from rows, with the number of nodes: those of live trees are these and no others.
+-- The cost is an index of the derivation, so the least tree and the least cost are one thing: least among
+-- live trees, since a tree that isn't normal may have the row of a live one with more nodes.
 use Rattle.std.specs.Prelude.{◌≡◌, ◌<◌, ◌↔◌, ◌+◌, ℕ, IsTrue, codes}
 use Rattle.tc_model.specs.Trees.{Trees, none, text, element, node_count}
 use Rattle.tc_model.specs.Chains.{Tree}

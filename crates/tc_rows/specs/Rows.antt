@@ -1,4 +1,5 @@
 -- Rows: all that can matter of a tree and of a list of trees. Where they may stand in the input, and what the stylesheet makes of them in each place.
+-- A row is a class of a congruence of finite index. The values of looks are those that a certificate has.
 use Rattle.std.specs.Prelude.{◌≡◌, ◌<◌, ◌≤◌, ◌↔◌, ◌+◌, ◌-◌, ◌*◌, ℕ, List, [], length, get_or, Bool, if◌then◌else◌, ◌==◌, not, Option, None, Some, All}
 use Rattle.std.specs.List.{Contains}
 use Rattle.std.specs.List.Sorted.{IsStrictlySortedBy}

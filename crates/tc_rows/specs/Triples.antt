@@ -1,4 +1,7 @@
 -- What rows go by: two schemas and a stylesheet, with the numbers of its path states and its rules' bodies.
+-- The number of a state is a function: its place among the states of all moves and then of all looks. A state
+-- without a number finds nothing and puts nothing out; so the empty state needs no case, and two for-eaches
+-- of one path and body are read by their own modes.
 use Rattle.std.specs.Prelude.{◌≡◌, ◌-◌, ◌*◌, ℕ, List, [], ◌∷◌, ◌++◌, length, map, Bool, true, false, ◌&&◌, nat_eq, Option, None, Some}
 use Rattle.tc_model.specs.Grammars.{Grammar, IsGrammar}
 use Rattle.tc_model.specs.Sheets.{Path, Test, Sheet, CallFreeBody}

@@ -1,4 +1,5 @@
 // The symbols of names: some of them are remembered, since most names of a document stand in it many times.
+// Each entry is true, so that one is overwritten changes no answer.
 ghost use Rattle.std.specs.Prelude.{◌≡◌, ◌<◌, List, length, IfOk, IfSome};
 ghost use Rattle.tc_model.specs.Symbols.{Mention, symbol_of};
 ghost use Rattle.tc_model.specs.Views as see;

@@ -1,4 +1,7 @@
 // Characters of a document (XML 1.0, 2.2).
+// Plain ASCII is looked at 64 bytes at once. What stands between such blocks goes through the check of UTF-8
+// and of each character. The text at the front is then lent by `from_utf8_unchecked`, whose condition is
+// proved; nothing else in the repository is `unsafe`.
 ghost use Rattle.std.specs.Prelude.{◌≡◌, ◌<◌, ◌≤◌, ◌↔◌, IsTrue, MatchBool, length, take};
 ghost use Rattle.std.specs.List.{list_all};
 ghost use Rattle.tc_model.specs.Names.{IsChars};

@@ -1,4 +1,7 @@
 // Rows of trees and of lists of trees, known by their numbers alone.
+// What is made of which is told by relations on numbers. So the search has neither schemas nor sets of pairs
+// in its proofs, and rows of another kind, as those of two schemas beside each other, come by the same
+// search, least costs and limits.
 ghost use Rattle.std.specs.Prelude.{◌≡◌, ◌<◌, ℕ, IfOk, IfErr, OnErr, MatchOption, MatchBool};
 ghost use Rattle.tc_settle.specs.Held.{Held, Grows, SameRows, IsExact, IsHeldAs, IsNoneAt, IsTextAt, IsAppendAt, IsWrapAt, IsUnchanged};
 

@@ -1,4 +1,11 @@
 // All rows, found cost by cost.
+// This is a least fixpoint with least weights. There is no queue: at cost c the elements around lists of cost
+// c - 1 are tried, and then trees of cost c - i behind lists of cost i. So a row is first found at its least
+// cost, its first derivation stays, and rows are numbered in order of cost. All costs past 2,000 are one
+// class, gone through to the end in any order, since no tree of them is ever built; where the greatest costs
+// of what is listed can't reach it, it isn't entered. The search stops where a count passes its limit: rows
+// that were found by then are rows of live trees, so they show that it passes. It doesn't stop at the first
+// row that fails, since `unsafe` is told only within the limits.
 ghost use Rattle.std.specs.Prelude.{◌≡◌, ◌<◌, ◌≤◌, ◌∷◌, [], ℕ, IfErr, IfOk, OnOk};
 ghost use Rattle.tc_settle.specs.Closed.{IsCause, IsClosure, IsKept};
 ghost use Rattle.tc_settle.specs.Settled.{AreFew, AreUpTo, IsBegun, IsNoneDone, IsWhole};

@@ -1,4 +1,5 @@
 -- Trees in which what is refused is taken away or exchanged.
+-- An element that isn't supported may be taken away with all that it holds.
 use Rattle.std.specs.Prelude.{◌⊎◌, ℕ, List, [], ◌∷◌, codes, IsTrue, ◌&&◌, bytes_eq, Some, ◌≡◌}
 use Rattle.std.specs.List.{list_any}
 use Rattle.tc_base.specs.declared.reasons.Why.{Why}

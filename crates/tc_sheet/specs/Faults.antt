@@ -1,4 +1,9 @@
 -- Why a raw tree isn't a stylesheet.
+-- Of several faults the first that is met is told: of an element first its attributes that must not be there,
+-- then those that are read, then what it holds, in the order of the text. Of `xsl:template` the attributes
+-- `match`, `priority`, `name` and `mode` are read in this order, and what it lacks comes after them; of
+-- `xsl:apply-templates` `select` and then `mode`; any other element has one attribute that is read at most.
+-- Two templates of one name come after all these, calls last, undefined ones before loops.
 use Rattle.std.specs.Prelude.{◌≡◌, ℕ, List}
 use Rattle.tc_model.specs.RawTrees.{RawTrees}
 use Rattle.tc_model.specs.Views.{place}

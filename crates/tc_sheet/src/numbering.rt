@@ -1,4 +1,7 @@
 // Bodies with numbers for modes, named templates and for-eaches.
+// More than 4,294,967,295 modes, named templates, for-eaches or rules are told as want of memory: no text
+// within the limit has as many, but the value in the arena that is numbered is bounded by no clause, and a
+// condition on its lengths would go through all traversals.
 ghost use Rattle.std.specs.Prelude.{◌≡◌, ◌+◌, ◌++◌, filter, map, option_map, IfOk, IfErr, MatchResult, OnOk};
 ghost use Rattle.tc_model.specs.Names.{same_name};
 ghost use Rattle.tc_model.specs.Numbered.{number_of};

@@ -1,4 +1,6 @@
 // The modes and the named templates of a stylesheet by their numbers.
+// They are put into the arena once they are whole, and handed on as references: a function that holds no
+// owned table across its `?` is proved in less time.
 ghost use Rattle.std.specs.Prelude.{◌≡◌, ◌++◌, map, option_map, IfOk, IfErr, OnOk};
 ghost use Rattle.std.specs.List.{IsDistinct};
 ghost use Rattle.tc_model.specs.Names.{same_name};

@@ -1,4 +1,6 @@
 // How large the grammar will be, before it is made.
+// Sizes are worked out once a definition, after those to which it refers, and stay at the greatest number of
+// 64 bits. Nothing is expanded before they are known to be within the limits.
 ghost use Rattle.std.specs.Prelude.{◌≡◌, length, slice_set};
 ghost use Rattle.tc_rnc.specs.Views as see;
 ghost use Rattle.tc_simple.specs.Nodes.{HasNumbersBelow};

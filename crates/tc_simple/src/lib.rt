@@ -1,5 +1,8 @@
 //! Simplifies schemas of RELAX NG's compact syntax (RELAX NG Specification, OASIS 2001, 4, as far as elements
 //! and text are told).
+//! A refusal for a count carries, in its contract, the grammar that passes it: so a syntax tree without
+//! faults has a grammar. The words `element` stand in the order of the text, as is proved, so the elements
+//! that are reached are numbered by a walk over the text, and nothing is sorted.
 #![tactic(auto)]
 
 ghost use Rattle.std.specs.Prelude.{◌≡◌, None, IfErr, IfOk};

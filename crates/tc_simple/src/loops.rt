@@ -1,4 +1,6 @@
 // References that reach themselves without passing an element, and what may stand at the start.
+// Loops are found by the components of definitions under references outside elements; definitions that aren't
+// reached may refer to themselves.
 ghost use Rattle.std.specs.Prelude.{◌≡◌, ◌<◌, ◌++◌, false, length, map, IfOk, OnOk, MatchBool};
 ghost use Rattle.std.specs.List.{filter_map, list_all};
 ghost use Rattle.tc_model.specs.Views.{place as see_place};

@@ -1,4 +1,6 @@
 // Whether a certificate holds.
+// No limit of the closure is tried: what isn't a certificate is rejected. Data is required as a certificate's
+// text gives it.
 ghost use Rattle.std.specs.Prelude.{◌≡◌, OnOk, IfErr};
 ghost use Rattle.tc_model.specs.Safety.{IsSafe};
 ghost use Rattle.tc_rows.specs.Triples.{Triple, sheet};

@@ -1,4 +1,6 @@
 -- What a fault says of the text that is refused.
+-- Malformed is said exactly where there is no tree and reading comes to nothing that is refused. Its place is
+-- where reading stops; no more is said of it than that it isn't past the end.
 use Rattle.std.specs.Prelude.{◌≤◌, ◌-◌, ℕ, true, false, List, length}
 use Rattle.tc_model.specs.RawTrees.{RawTrees}
 use Rattle.tc_model.specs.XmlText.{Reads, deepest_element}

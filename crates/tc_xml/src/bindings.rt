@@ -1,5 +1,7 @@
 // The prefixes that are bound where reading stands: one map for a whole document, in which each end tag takes
 // back what its element declared (Namespaces in XML 1.0, 3 and 6.1).
+// A declaration notes what it hides. An empty namespace name stands for none, so nothing is taken out of the
+// map. A raw tree instead has a list of prefixes of its own for each element that declares one.
 ghost use Rattle.std.specs.Prelude.{◌≡◌, [], Some, length, IfSome};
 ghost use Rattle.std.specs.Option.{option_map};
 ghost use Rattle.tc_model.specs.XmlTextScopes as xml;

@@ -1,4 +1,6 @@
 // The documents of texts.
+// What reads in one pass may give up, and so may what takes the trees. Then the reader that tells each fault
+// decides, so that the one in one pass promises only what it gives.
 ghost use Rattle.std.specs.Prelude.{◌≡◌, ◌≤◌, length, IfOk, IfErr, IfSome};
 ghost use Rattle.tc_model.specs.RawTrees.{RawTrees};
 ghost use Rattle.tc_model.specs.Stripped.{stripped};

@@ -1,5 +1,7 @@
 // Start tags whose attributes are read, and dropped (XML 1.0, 3.1; Namespaces in XML 1.0, 3, 5 and 6). Where
 // anything is unusual this gives up, and what it gives is what the tag means.
+// Attributes are told apart by one list of expanded names. A declaration stands in it in the namespace of
+// declarations, in which no other name is.
 ghost use Rattle.std.specs.Prelude.{◌≡◌, ℕ, List, Some, IfSome};
 ghost use Rattle.tc_model.specs.RawTrees.{Bound};
 ghost use Rattle.tc_model.specs.Views.{name as seen_name};
