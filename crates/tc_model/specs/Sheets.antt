@@ -1,4 +1,5 @@
 -- Stylesheets (XSLT 1.0, 2 to 9): paths, tests, bodies and rules.
+-- Bodies without calls stand here too, since well-formed stylesheets are said by them.
 use Rattle.std.specs.Prelude.{◌≡◌, ℕ, ℤ, List, Bool, Some, slice_get}
 use Rattle.tc_model.specs.Names.{ExpandedName}
 
