@@ -2,6 +2,7 @@
 //!
 //! `tc_model`'s `specs/States.antt` says which states a pattern has and which edges lead between them. A
 //! run from the first state of a part to an accepting one exists exactly where the trees match the part.
+//! These are content automata, those of positions in patterns.
 #![tactic(auto)]
 
 pub mod arrows;

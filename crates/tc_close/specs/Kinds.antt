@@ -1,4 +1,5 @@
 -- Rows that may stand in the same places, and what is known to be dead of them.
+-- A kind is a state of the input's automata, determinised.
 use Rattle.std.specs.Prelude.{◌≡◌, ◌<◌, ◌≤◌, ◌⊎◌, ℕ, List, [], length, get_or}
 use Rattle.tc_model.specs.States.{input, state_count}
 use Rattle.tc_mat.specs.Matrix.{Matrix}

@@ -1,4 +1,5 @@
 -- Cover rows: all that can matter of a tree and of a list of trees for two schemas.
+-- They are states of a product of determinised automata.
 use Rattle.std.specs.Prelude.{◌≡◌, ◌<◌, ◌≤◌, ◌↔◌, ℕ, List, length, Bool, All}
 use Rattle.std.specs.List.{Contains}
 use Rattle.std.specs.List.Sorted.{IsStrictlySortedBy}

@@ -1,3 +1,4 @@
+// A reader that is slow, fails or never ends, and what is read of it.
 use crate::StoreFault;
 use crate::real::read_to_end;
 use std::io;

@@ -1,4 +1,5 @@
 -- The rule of a node by states: which rules fit it is told by its letter and by the state of all rules' patterns at the node above it.
+-- It is told by a deterministic top-down automaton.
 use Rattle.std.specs.Prelude.{◌≡◌, ◌≤◌, ◌⊎◌, ℕ, Bool, true, List, [], Option, None, Some, slice_get, get_or, int_lt}
 use Rattle.tc_model.specs.Sheets.{Test, Rule}
 use Rattle.tc_model.specs.Symbols.{Mention}

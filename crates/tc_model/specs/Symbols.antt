@@ -1,6 +1,7 @@
 -- Symbols: the names of elements, by what two schemas and a stylesheet mention of them. The names of one symbol are alike for all three.
 -- Symbols and the names that stand for them are functions; laws say that they are the only list in order and
 -- the first free names that the plain words mean.
+-- The field says letters, or minterms.
 use Rattle.std.specs.Prelude.{◌≡◌, ◌<◌, ◌↔◌, ℕ, zero, suc, ◌+◌, nat_lt, List, [], ◌∷◌, ◌++◌, length, Bool, false, IsTrue, if◌then◌else◌, Option, Some, None, slice_get, All, Contains, flat_map, codes}
 use Rattle.std.specs.List.Sorted.{IsStrictlySortedBy}
 use Rattle.std.specs.declared.cmp.Ordering.{Ordering}

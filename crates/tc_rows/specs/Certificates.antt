@@ -1,6 +1,7 @@
 -- Lists of rows that are closed under row arithmetic, whatever they were made by: they hold the rows of all live trees, so they show safety.
 -- Rows that are listed beyond those of live trees, also of no tree, and sets that no row uses are accepted
 -- where all rules hold. None that lacks a row of a live tree is, so the one that `prove` writes is the least.
+-- Such lists are an inductive invariant.
 use Rattle.std.specs.Prelude.{ℕ, ◌<◌, List, [], length, map, get_or, Bool, IsTrue, Contains, All}
 use Rattle.tc_model.specs.Trees.{Trees}
 use Rattle.tc_model.specs.Chains.{Tree}

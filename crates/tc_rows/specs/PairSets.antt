@@ -1,5 +1,6 @@
 -- Sets of pairs of states of the output: what is put out leads the one to the other.
 -- They are strictly ascending lists, so that different sets are different lists.
+-- Each set is an element of the output's transition monoid.
 use Rattle.std.specs.Prelude.{◌≡◌, ◌<◌, ◌↔◌, ℕ, List, Bool, true, false}
 use Rattle.std.specs.List.{Contains}
 use Rattle.std.specs.List.Sorted.{IsStrictlySortedBy}

@@ -1,5 +1,6 @@
 //! The closure of numbered rows, cost by cost: what can be made of texts, of elements around lists of trees and of
 //! lists with one more tree behind, each at its least cost.
+//! A least fixpoint with least weights.
 #![tactic(auto)]
 
 mod building;
