@@ -140,9 +140,16 @@ impl Alphabet {
         output: &Grammar<'_>,
         sheet: &Sheet<'_>,
     ) -> Result<Alphabet, AlphaFault>
-        ensures stands { IfOk result (λ a. a ≡ symbols_of (see.grammar input.now) (see.grammar output.now) (see.sheet sheet.now)) }
-        ensures few { OnOk result (symbol_count (symbols_of (see.grammar input.now) (see.grammar output.now) (see.sheet sheet.now)) ≤ 1024) }
-        ensures many { IfErr result (λ e. e ≡ AlphaFault.TooManySymbols → 1024 < symbol_count (symbols_of (see.grammar input.now) (see.grammar output.now) (see.sheet sheet.now))) }
+        ensures stands { IfOk result (λ a. a
+            ≡ symbols_of (see.grammar input.now) (see.grammar output.now) (see.sheet sheet.now)) }
+        ensures few { OnOk result
+            (symbol_count
+            (symbols_of (see.grammar input.now) (see.grammar output.now) (see.sheet sheet.now))
+            ≤ 1024) }
+        ensures many { IfErr result
+            (λ e. e ≡ AlphaFault.TooManySymbols
+            → 1024 < symbol_count
+            (symbols_of (see.grammar input.now) (see.grammar output.now) (see.sheet sheet.now))) }
     {
         let mentions = mentions_of(alloc, input, output, sheet)?;
         of_mentions(alloc, &mentions)
@@ -177,7 +184,8 @@ impl Alphabet {
 
     /// What stands at a place among the symbols.
     fn at(&self, place: usize) -> Option<Mention<'_>>
-        ensures found { MatchOption result (slice_get self.now place ≡ None) (λ m. slice_get self.now place ≡ Some (see_mention m)) }
+        ensures found { MatchOption result (slice_get self.now place ≡ None)
+            (λ m. slice_get self.now place ≡ Some (see_mention m)) }
         ensures symbols { AreSymbols self.now }
     {
         match self.symbols.get(place) {
@@ -190,7 +198,9 @@ impl Alphabet {
     pub fn sym_of(&self, name: &Name<'_>) -> Sym
         ensures symbol { result.0 ≡ symbol_of self.now (see.name name.now) }
         ensures below { result.0 < symbol_count self.now }
-        ensures alike { (input output : g.Grammar) (sheet : s.Sheet) → self.now ≡ symbols_of input output sheet → (other : ExpandedName) → result.0 ≡ symbol_of self.now other → AreAlike input output sheet (see.name name.now) other }
+        ensures alike { (input output : g.Grammar) (sheet : s.Sheet) → self.now
+            ≡ symbols_of input output sheet → (other : ExpandedName) → result.0
+            ≡ symbol_of self.now other → AreAlike input output sheet (see.name name.now) other }
     {
         let own = self.place(&Mention::Name(*name));
         if own < self.own() {
@@ -204,7 +214,10 @@ impl Alphabet {
     pub fn fresh<'b>(&self, arena: &'b Bump, sym: Sym) -> Result<Name<'b>, NoMemory>
         requires { sym.0 < symbol_count self.now }
         ensures name { IfOk result (λ n. see.name n ≡ fresh_name self.now sym.0) }
-        ensures lawful { IfOk result (λ n. (input output : g.Grammar) (sheet : s.Sheet) → g.IsGrammar input → g.IsGrammar output → IsSheet sheet → self.now ≡ symbols_of input output sheet → IsName (see.name n)) }
+        ensures lawful { IfOk result
+            (λ n. (input output : g.Grammar) (sheet : s.Sheet) → g.IsGrammar input
+            → g.IsGrammar output → IsSheet sheet → self.now ≡ symbols_of input output sheet
+            → IsName (see.name n)) }
         ensures symbol { IfOk result (λ n. symbol_of self.now (see.name n) ≡ sym.0) }
     {
         match self.at(sym.0 as usize) {
@@ -231,7 +244,10 @@ impl Alphabet {
         within: Option<&str>,
         first: &str,
     ) -> Result<&'b str, NoMemory>
-        ensures { IfOk result (λ text. text.now ≡ lengthened (λ t. is_mentioned (mention_by within.entry t) self.now) (length self.now) first.now) }
+        ensures { IfOk result
+            (λ text. text.now
+            ≡ lengthened (λ t. is_mentioned (mention_by within.entry t) self.now)
+            (length self.now) first.now) }
     {
         let most = self.own();
         let mut text = String::from_str(arena, first)?;
@@ -260,7 +276,8 @@ fn of_mentions(alloc: Global, mentions: &[Mention<'_>]) -> Result<Alphabet, Alph
     requires { AreSymbols (seen mentions.now) }
     ensures stands { IfOk result (λ a. a ≡ seen mentions.now) }
     ensures few { OnOk result (symbol_count (seen mentions.now) ≤ 1024) }
-    ensures many { IfErr result (λ e. e ≡ AlphaFault.TooManySymbols → 1024 < symbol_count (seen mentions.now)) }
+    ensures many { IfErr result
+        (λ e. e ≡ AlphaFault.TooManySymbols → 1024 < symbol_count (seen mentions.now)) }
 {
     if mentions.len() >= MOST_SYMBOLS {
         return Err(AlphaFault::TooManySymbols);
@@ -291,7 +308,8 @@ fn mentions_of<'i: 'f, 'o: 'f, 's: 'f, 'f>(
     output: &Grammar<'o>,
     sheet: &Sheet<'s>,
 ) -> Result<Vec<Mention<'f>>, NoMemory>
-    ensures { IfOk result (λ v. seen v.items ≡ symbols_of (see.grammar input.now) (see.grammar output.now) (see.sheet sheet.now)) }
+    ensures { IfOk result (λ v. seen v.items
+        ≡ symbols_of (see.grammar input.now) (see.grammar output.now) (see.sheet sheet.now)) }
 {
     let mut found = Vec::new(alloc);
     mention_grammar(&mut found, input)?;

@@ -20,7 +20,8 @@ pub enum Mention<'b> {
 
 /// One more mention.
 fn add<'b>(found: &mut Vec<Mention<'b>>, mention: Mention<'b>) -> Result<(), NoMemory>
-    ensures { OnOk result (seen found.new.items ≡ seen found.old.items ++ see_mention mention.entry ∷ []) }
+    ensures { OnOk result
+        (seen found.new.items ≡ seen found.old.items ++ see_mention mention.entry ∷ []) }
 {
     found.push(mention)?;
     Ok(())
@@ -33,7 +34,8 @@ fn mention_class<'b: 'f, 'f>(
     found: &mut Vec<Mention<'f>>,
     class: &NameClass<'b>,
 ) -> Result<(), NoMemory>
-    ensures { OnOk result (seen found.new.items ≡ seen found.old.items ++ mentions_in_class (see.class class.now)) }
+    ensures { OnOk result
+        (seen found.new.items ≡ seen found.old.items ++ mentions_in_class (see.class class.now)) }
 {
     match class {
         NameClass::Name(name) => add(found, Mention::Name(*name)),
@@ -51,7 +53,8 @@ fn mention_classes<'b: 'f, 'f>(
     found: &mut Vec<Mention<'f>>,
     classes: &[NameClass<'b>],
 ) -> Result<(), NoMemory>
-    ensures { OnOk result (seen found.new.items ≡ seen found.old.items ++ mentions_in_classes (see.classes classes.now)) }
+    ensures { OnOk result (seen found.new.items ≡ seen found.old.items
+        ++ mentions_in_classes (see.classes classes.now)) }
 {
     for class in classes {
         mention_class(found, class)?;
@@ -64,7 +67,8 @@ pub fn mention_grammar<'b: 'f, 'f>(
     found: &mut Vec<Mention<'f>>,
     grammar: &Grammar<'b>,
 ) -> Result<(), NoMemory>
-    ensures { OnOk result (seen found.new.items ≡ seen found.old.items ++ mentions_in_grammar (see.grammar grammar.now)) }
+    ensures { OnOk result (seen found.new.items ≡ seen found.old.items
+        ++ mentions_in_grammar (see.grammar grammar.now)) }
 {
     for element in grammar.elements {
         mention_class(found, &element.names)?;
@@ -76,7 +80,8 @@ fn mention_node_test<'b: 'f, 'f>(
     found: &mut Vec<Mention<'f>>,
     test: &NodeTest<'b>,
 ) -> Result<(), NoMemory>
-    ensures { OnOk result (seen found.new.items ≡ seen found.old.items ++ mentions_of_test (see.node_test test.now)) }
+    ensures { OnOk result
+        (seen found.new.items ≡ seen found.old.items ++ mentions_of_test (see.node_test test.now)) }
 {
     match test {
         NodeTest::Name(name) => add(found, Mention::Name(*name)),
@@ -91,7 +96,8 @@ fn mention_steps<'b: 'f, 'f>(
     found: &mut Vec<Mention<'f>>,
     steps: &[Step<'b>],
 ) -> Result<(), NoMemory>
-    ensures { OnOk result (seen found.new.items ≡ seen found.old.items ++ in_steps mentions_of_test mentions_of_name (see.steps steps.now)) }
+    ensures { OnOk result (seen found.new.items ≡ seen found.old.items
+        ++ in_steps mentions_of_test mentions_of_name (see.steps steps.now)) }
 {
     for step in steps {
         mention_node_test(found, &step.test)?;
@@ -102,7 +108,8 @@ fn mention_steps<'b: 'f, 'f>(
 
 #[cycle(paths)]
 fn mention_path<'b: 'f, 'f>(found: &mut Vec<Mention<'f>>, path: &Path<'b>) -> Result<(), NoMemory>
-    ensures { OnOk result (seen found.new.items ≡ seen found.old.items ++ in_path mentions_of_test mentions_of_name (see.path path.now)) }
+    ensures { OnOk result (seen found.new.items ≡ seen found.old.items
+        ++ in_path mentions_of_test mentions_of_name (see.path path.now)) }
 {
     for steps in path.alts {
         mention_steps(found, steps)?;
@@ -113,7 +120,8 @@ fn mention_path<'b: 'f, 'f>(found: &mut Vec<Mention<'f>>, path: &Path<'b>) -> Re
 #[cycle(paths)]
 #[tactic(auto, using(tc_model::proofs::ViewsPath::see_test))]
 fn mention_test<'b: 'f, 'f>(found: &mut Vec<Mention<'f>>, test: &Test<'b>) -> Result<(), NoMemory>
-    ensures { OnOk result (seen found.new.items ≡ seen found.old.items ++ in_test mentions_of_test mentions_of_name (see.test test.now)) }
+    ensures { OnOk result (seen found.new.items ≡ seen found.old.items
+        ++ in_test mentions_of_test mentions_of_name (see.test test.now)) }
 {
     match test {
         Test::True | Test::False => Ok(()),
@@ -128,7 +136,8 @@ fn mention_tests<'b: 'f, 'f>(
     found: &mut Vec<Mention<'f>>,
     tests: &[Test<'b>],
 ) -> Result<(), NoMemory>
-    ensures { OnOk result (seen found.new.items ≡ seen found.old.items ++ in_tests mentions_of_test mentions_of_name (see.tests tests.now)) }
+    ensures { OnOk result (seen found.new.items ≡ seen found.old.items
+        ++ in_tests mentions_of_test mentions_of_name (see.tests tests.now)) }
 {
     for test in tests {
         mention_test(found, test)?;
@@ -140,7 +149,8 @@ fn mention_pattern<'b: 'f, 'f>(
     found: &mut Vec<Mention<'f>>,
     pattern: &Pattern<'b>,
 ) -> Result<(), NoMemory>
-    ensures { OnOk result (seen found.new.items ≡ seen found.old.items ++ in_pattern mentions_of_test mentions_of_name (see.match_pattern pattern.now)) }
+    ensures { OnOk result (seen found.new.items ≡ seen found.old.items
+        ++ in_pattern mentions_of_test mentions_of_name (see.match_pattern pattern.now)) }
 {
     match pattern {
         Pattern::Root => Ok(()),
@@ -154,7 +164,8 @@ fn mention_body<'b: 'f, 'f>(
     found: &mut Vec<Mention<'f>>,
     body: &[Instr<'b>],
 ) -> Result<(), NoMemory>
-    ensures { OnOk result (seen found.new.items ≡ seen found.old.items ++ in_body mentions_of_test mentions_of_name (see.body body.now)) }
+    ensures { OnOk result (seen found.new.items ≡ seen found.old.items
+        ++ in_body mentions_of_test mentions_of_name (see.body body.now)) }
 {
     for instruction in body {
         mention_instruction(found, instruction)?;
@@ -168,7 +179,10 @@ fn mention_instruction<'b: 'f, 'f>(
     found: &mut Vec<Mention<'f>>,
     instruction: &Instr<'b>,
 ) -> Result<(), NoMemory>
-    ensures { OnOk result ((rest : s.Body) → seen found.new.items ++ in_body mentions_of_test mentions_of_name rest ≡ seen found.old.items ++ in_body mentions_of_test mentions_of_name (see.instruction instruction.now rest)) }
+    ensures { OnOk result
+        ((rest : s.Body) → seen found.new.items ++ in_body mentions_of_test mentions_of_name rest
+        ≡ seen found.old.items
+        ++ in_body mentions_of_test mentions_of_name (see.instruction instruction.now rest)) }
 {
     match instruction {
         Instr::Text(_) | Instr::Call(_) | Instr::ValueOfSelf => Ok(()),
@@ -194,7 +208,10 @@ fn mention_branches<'b: 'f, 'f>(
     found: &mut Vec<Mention<'f>>,
     branches: &[Branch<'b>],
 ) -> Result<(), NoMemory>
-    ensures { OnOk result ((rest : s.Branches) → seen found.new.items ++ in_branches mentions_of_test mentions_of_name rest ≡ seen found.old.items ++ in_branches mentions_of_test mentions_of_name (see.branches branches.now rest)) }
+    ensures { OnOk result
+        ((rest : s.Branches) → seen found.new.items
+        ++ in_branches mentions_of_test mentions_of_name rest ≡ seen found.old.items
+        ++ in_branches mentions_of_test mentions_of_name (see.branches branches.now rest)) }
 {
     for branch in branches {
         mention_test(found, &branch.test)?;
@@ -208,7 +225,8 @@ pub fn mention_sheet<'b: 'f, 'f>(
     found: &mut Vec<Mention<'f>>,
     sheet: &Sheet<'b>,
 ) -> Result<(), NoMemory>
-    ensures { OnOk result (seen found.new.items ≡ seen found.old.items ++ mentions_in_sheet (see.sheet sheet.now)) }
+    ensures { OnOk result
+        (seen found.new.items ≡ seen found.old.items ++ mentions_in_sheet (see.sheet sheet.now)) }
 {
     for rule in sheet.rules {
         mention_pattern(found, &rule.pattern)?;

@@ -34,7 +34,8 @@ fn push_arrows_from(
     row: &Row,
     leaf: Leaf,
 ) -> Result<(), NoMemory>
-    ensures { OnOk result (Gains arrows.old.items arrows.new.items (IsFrom from row.now.edges.items leaf)) }
+    ensures { OnOk result
+        (Gains arrows.old.items arrows.new.items (IsFrom from row.now.edges.items leaf)) }
 {
     for edge in &row.edges {
         push_arrow(arrows, from, *edge, leaf)?;

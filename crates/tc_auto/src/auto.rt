@@ -67,8 +67,10 @@ impl<'b> Auto<'b> {
     /// The automaton of an output schema: its start and its contents, of at most `most` states.
     pub fn of(alloc: Global, grammar: &Grammar<'b>, most: u32) -> Result<Auto<'b>, AutoFault>
         ensures stands { IfOk result (λ a. Stands s.output (see.grammar grammar.now) a) }
-        ensures too_many { result ≡ Err AutoFault.TooManyStates → most < s.state_count (see.grammar grammar.now) s.output }
-        ensures told { most < s.state_count (see.grammar grammar.now) s.output → result ≡ Err AutoFault.TooManyStates }
+        ensures too_many { result ≡ Err AutoFault.TooManyStates
+            → most < s.state_count (see.grammar grammar.now) s.output }
+        ensures told { most < s.state_count (see.grammar grammar.now) s.output → result
+            ≡ Err AutoFault.TooManyStates }
         ensures runs { RunsExactly (see.grammar grammar.now) s.output }
     {
         made(alloc, grammar, true, most)
@@ -77,8 +79,10 @@ impl<'b> Auto<'b> {
     /// The automaton of an input schema: its contents alone, of at most `most` states.
     pub fn contents(alloc: Global, grammar: &Grammar<'b>, most: u32) -> Result<Auto<'b>, AutoFault>
         ensures stands { IfOk result (λ a. Stands s.input (see.grammar grammar.now) a) }
-        ensures too_many { result ≡ Err AutoFault.TooManyStates → most < s.state_count (see.grammar grammar.now) s.input }
-        ensures told { most < s.state_count (see.grammar grammar.now) s.input → result ≡ Err AutoFault.TooManyStates }
+        ensures too_many { result ≡ Err AutoFault.TooManyStates
+            → most < s.state_count (see.grammar grammar.now) s.input }
+        ensures told { most < s.state_count (see.grammar grammar.now) s.input → result
+            ≡ Err AutoFault.TooManyStates }
         ensures runs { RunsExactly (see.grammar grammar.now) s.input }
     {
         made(alloc, grammar, false, most)
@@ -87,7 +91,8 @@ impl<'b> Auto<'b> {
     /// The number of element patterns.
     pub fn patterns(&self) -> u32
         ensures here { result ≡ patterns self.now }
-        ensures schema { (side : s.Side) (x : g.Grammar) → Stands side x self.now → result ≡ length x.elements }
+        ensures schema { (side : s.Side) (x : g.Grammar) → Stands side x self.now → result
+            ≡ length x.elements }
     {
         self.elements.len() as u32
     }
@@ -95,7 +100,8 @@ impl<'b> Auto<'b> {
     /// The number of states.
     pub fn states(&self) -> u32
         ensures here { result ≡ states self.now }
-        ensures schema { (side : s.Side) (x : g.Grammar) → Stands side x self.now → result ≡ s.state_count x side }
+        ensures schema { (side : s.Side) (x : g.Grammar) → Stands side x self.now → result
+            ≡ s.state_count x side }
     {
         self.rows.len() as u32
     }
@@ -105,7 +111,8 @@ impl<'b> Auto<'b> {
         requires { part ≤ patterns self.now }
         ensures within { result ≤ states self.now }
         ensures below { 1 ≤ part → result < states self.now }
-        ensures exact { (side : s.Side) (x : g.Grammar) → Stands side x self.now → result ≡ s.first_state x side part }
+        ensures exact { (side : s.Side) (x : g.Grammar) → Stands side x self.now → result
+            ≡ s.first_state x side part }
     {
         self.firsts[part as usize]
     }
@@ -114,7 +121,8 @@ impl<'b> Auto<'b> {
     pub fn end(&self, part: u32) -> u32
         requires { part ≤ patterns self.now }
         ensures within { result ≤ states self.now }
-        ensures exact { (side : s.Side) (x : g.Grammar) → Stands side x self.now → result ≡ s.first_state x side (suc part) }
+        ensures exact { (side : s.Side) (x : g.Grammar) → Stands side x self.now → result
+            ≡ s.first_state x side (suc part) }
     {
         if part < self.patterns() {
             self.first(part + 1)
@@ -127,7 +135,8 @@ impl<'b> Auto<'b> {
     pub fn follow(&self, state: u32) -> &[Edge]
         requires { state < states self.now }
         ensures within { All (λ (e : Edge). e.to < states self.now) result.now }
-        ensures exact { (side : s.Side) (x : g.Grammar) → Stands side x self.now → (e : Edge) → Contains result.now e ↔ s.IsEdge x side state (leaf e.leaf) e.to }
+        ensures exact { (side : s.Side) (x : g.Grammar) → Stands side x self.now → (e : Edge)
+            → Contains result.now e ↔ s.IsEdge x side state (leaf e.leaf) e.to }
     {
         self.rows[state as usize].edges.as_slice()
     }
@@ -135,7 +144,8 @@ impl<'b> Auto<'b> {
     /// The edges that take a text.
     pub fn text_arrows(&self) -> &[Arrow]
         ensures within { AreWithin (states self.now) result.now }
-        ensures exact { (side : s.Side) (x : g.Grammar) → Stands side x self.now → (a : Arrow) → Contains result.now a ↔ s.IsEdge x side a.from s.text_leaf a.to }
+        ensures exact { (side : s.Side) (x : g.Grammar) → Stands side x self.now → (a : Arrow)
+            → Contains result.now a ↔ s.IsEdge x side a.from s.text_leaf a.to }
     {
         self.arrows[0].as_slice()
     }
@@ -145,7 +155,8 @@ impl<'b> Auto<'b> {
         requires from_one { 1 ≤ number }
         requires within { number ≤ patterns self.now }
         ensures within { AreWithin (states self.now) result.now }
-        ensures exact { (side : s.Side) (x : g.Grammar) → Stands side x self.now → (a : Arrow) → Contains result.now a ↔ s.IsEdge x side a.from (s.ref_leaf number) a.to }
+        ensures exact { (side : s.Side) (x : g.Grammar) → Stands side x self.now → (a : Arrow)
+            → Contains result.now a ↔ s.IsEdge x side a.from (s.ref_leaf number) a.to }
     {
         self.arrows[number as usize].as_slice()
     }
@@ -153,7 +164,8 @@ impl<'b> Auto<'b> {
     /// Whether a state accepts.
     pub fn accepts(&self, state: u32) -> bool
         requires { state < states self.now }
-        ensures { (side : s.Side) (x : g.Grammar) → Stands side x self.now → IsTrue result ↔ s.IsAccepting x side state }
+        ensures { (side : s.Side) (x : g.Grammar) → Stands side x self.now → IsTrue result
+            ↔ s.IsAccepting x side state }
     {
         self.rows[state as usize].accepting
     }
@@ -162,21 +174,25 @@ impl<'b> Auto<'b> {
     pub fn allows(&self, number: u32, name: &Name<'_>) -> bool
         requires from_one { 1 ≤ number }
         requires within { number ≤ patterns self.now }
-        ensures { (side : s.Side) (x : g.Grammar) → Stands side x self.now → (e : g.ElementPattern) → g.element_at x.elements number ≡ Some e → result ≡ g.in_class e.names (see.name name.now) }
+        ensures { (side : s.Side) (x : g.Grammar) → Stands side x self.now → (e : g.ElementPattern)
+            → g.element_at x.elements number ≡ Some e → result
+            ≡ g.in_class e.names (see.name name.now) }
     {
         is_in_class(&self.elements[number as usize - 1].names, name)
     }
 
     /// Whether an element pattern is an alternative of the start, through nested choices.
     pub fn starts(&self, number: u32) -> bool
-        ensures { (side : s.Side) (x : g.Grammar) → Stands side x self.now → result ≡ s.is_alternative number x.start }
+        ensures { (side : s.Side) (x : g.Grammar) → Stands side x self.now → result
+            ≡ s.is_alternative number x.start }
     {
         has_alternative(&self.start, number)
     }
     /// Whether `text` is written in the content of some element pattern, also where nothing can match it
     /// there, as beside `notAllowed`.
     pub fn has_text(&self) -> bool
-        ensures { (side : s.Side) (x : g.Grammar) → Stands side x self.now → result ≡ g.some_content_has_text x.elements }
+        ensures { (side : s.Side) (x : g.Grammar) → Stands side x self.now → result
+            ≡ g.some_content_has_text x.elements }
     {
         has_content_with_text(self.elements)
     }

@@ -15,7 +15,8 @@ use tc_model::{Grammar, Pat};
 
 /// How many states the start has, or none where it isn't counted.
 fn total_of_start(grammar: &Grammar<'_>, with_start: bool) -> u64
-    ensures { result ≡ min (states.first_state (see.grammar grammar.now) (side_of with_start) 1) (2 ^ 64 - 1) }
+    ensures { result
+        ≡ min (states.first_state (see.grammar grammar.now) (side_of with_start) 1) (2 ^ 64 - 1) }
 {
     if with_start {
         state_count(&grammar.start)
@@ -26,7 +27,8 @@ fn total_of_start(grammar: &Grammar<'_>, with_start: bool) -> u64
 
 /// How many states a side of a schema has, or the greatest `u64` where it is no less than that.
 fn total(grammar: &Grammar<'_>, with_start: bool) -> u64
-    ensures { result ≡ min (states.state_count (see.grammar grammar.now) (side_of with_start)) (2 ^ 64 - 1) }
+    ensures { result
+        ≡ min (states.state_count (see.grammar grammar.now) (side_of with_start)) (2 ^ 64 - 1) }
 {
     let mut total = total_of_start(grammar, with_start);
     for element in grammar.elements {
@@ -42,7 +44,8 @@ fn rows_of_start(
     with_start: bool,
 ) -> Result<Vec<Row>, NoMemory>
     requires { states.state_count (see.grammar grammar.now) (side_of with_start) < 2 ^ 32 }
-    ensures { IfOk result (λ r. Built (see.grammar grammar.now) (side_of with_start) 1 (0 ∷ []) r.items) }
+    ensures { IfOk result
+        (λ r. Built (see.grammar grammar.now) (side_of with_start) 1 (0 ∷ []) r.items) }
 {
     let mut rows = Vec::new(alloc);
     if with_start {
@@ -82,8 +85,10 @@ pub fn made<'b>(
     most: u32,
 ) -> Result<Auto<'b>, AutoFault>
     ensures stands { IfOk result (λ a. Stands (side_of with_start) (see.grammar grammar.now) a) }
-    ensures too_many { result ≡ Err AutoFault.TooManyStates → most < states.state_count (see.grammar grammar.now) (side_of with_start) }
-    ensures told { most < states.state_count (see.grammar grammar.now) (side_of with_start) → result ≡ Err AutoFault.TooManyStates }
+    ensures too_many { result ≡ Err AutoFault.TooManyStates
+        → most < states.state_count (see.grammar grammar.now) (side_of with_start) }
+    ensures told { most < states.state_count (see.grammar grammar.now) (side_of with_start)
+        → result ≡ Err AutoFault.TooManyStates }
 {
     if total(grammar, with_start) > u64::from(most) {
         return Err(AutoFault::TooManyStates);

@@ -77,7 +77,8 @@ fn push_all_moved(
 ) -> Result<(), NoMemory>
     requires within { IsWithin second.now }
     requires room { second.now.count + by ≤ 2 ^ 32 }
-    ensures { IfOk result (λ _. steps.new.items ≡ steps.old.items ++ carried by starts.now second.now.steps.items) }
+    ensures { IfOk result
+        (λ _. steps.new.items ≡ steps.old.items ++ carried by starts.now second.now.steps.items) }
 {
     for step in &second.steps {
         push_moved(steps, *step, by, starts)?;
@@ -100,7 +101,8 @@ fn push_unless_start(ends: &mut Vec<u32>, end: u32, by: u32) -> Result<(), NoMem
 fn push_later(ends: &mut Vec<u32>, second: &Nfa, by: u32) -> Result<(), NoMemory>
     requires within { IsWithin second.now }
     requires room { second.now.count + by ≤ 2 ^ 32 }
-    ensures { IfOk result (λ _. ends.new.items ≡ ends.old.items ++ later by second.now.accepting.items) }
+    ensures { IfOk result
+        (λ _. ends.new.items ≡ ends.old.items ++ later by second.now.accepting.items) }
 {
     for end in &second.accepting {
         push_unless_start(ends, *end, by)?;
@@ -195,7 +197,8 @@ pub fn one_element(alloc: Global, pattern: u32) -> Result<Nfa, NoMemory>
 pub fn group(alloc: Global, first: Nfa, second: Nfa) -> Result<Nfa, NoMemory>
     requires within { IsWithin first × IsWithin second }
     requires room { first.count + second.count ≤ 2 ^ 32 }
-    ensures { (p q : Pattern) → Shows first (automaton p) → Shows second (automaton q) → IfOk result (λ r. Shows r (group_of (automaton p) (automaton q))) }
+    ensures { (p q : Pattern) → Shows first (automaton p) → Shows second (automaton q)
+        → IfOk result (λ r. Shows r (group_of (automaton p) (automaton q))) }
 {
     let by = first.count - 1;
     let mut steps = first.steps;
@@ -216,7 +219,8 @@ pub fn group(alloc: Global, first: Nfa, second: Nfa) -> Result<Nfa, NoMemory>
 pub fn choice(first: Nfa, second: Nfa) -> Result<Nfa, NoMemory>
     requires within { IsWithin first × IsWithin second }
     requires room { first.count + second.count ≤ 2 ^ 32 }
-    ensures { (p q : Pattern) → Shows first (automaton p) → Shows second (automaton q) → IfOk result (λ r. Shows r (choice_of (automaton p) (automaton q))) }
+    ensures { (p q : Pattern) → Shows first (automaton p) → Shows second (automaton q)
+        → IfOk result (λ r. Shows r (choice_of (automaton p) (automaton q))) }
 {
     let by = first.count - 1;
     let adds_start = start_is_added(&first.accepting, &second.accepting);
@@ -251,7 +255,8 @@ fn push_beside_second(
 ) -> Result<(), NoMemory>
     requires within { (step.from < first_count) × (step.to < first_count) }
     requires room { first_count * count < 2 ^ 32 }
-    ensures { IfOk result (λ _. steps.new.items ≡ steps.old.items ++ beside_second step count count) }
+    ensures { IfOk result
+        (λ _. steps.new.items ≡ steps.old.items ++ beside_second step count count) }
 {
     for y in 0..count {
         steps.push(Transition {
@@ -272,7 +277,8 @@ fn push_beside_first(
 ) -> Result<(), NoMemory>
     requires within { (step.from < count) × (step.to < count) }
     requires room { first_count * count < 2 ^ 32 }
-    ensures { IfOk result (λ _. steps.new.items ≡ steps.old.items ++ beside_first step count first_count) }
+    ensures { IfOk result
+        (λ _. steps.new.items ≡ steps.old.items ++ beside_first step count first_count) }
 {
     for x in 0..first_count {
         steps.push(Transition {
@@ -292,7 +298,8 @@ fn push_all_beside_second(
 ) -> Result<(), NoMemory>
     requires within { IsWithin first.now }
     requires room { first.now.count * count < 2 ^ 32 }
-    ensures { IfOk result (λ _. steps.new.items ≡ steps.old.items ++ all_beside_second first.now.steps.items count) }
+    ensures { IfOk result
+        (λ _. steps.new.items ≡ steps.old.items ++ all_beside_second first.now.steps.items count) }
 {
     for step in &first.steps {
         push_beside_second(steps, *step, first.count, count)?;
@@ -308,7 +315,8 @@ fn push_all_beside_first(
 ) -> Result<(), NoMemory>
     requires within { IsWithin second.now }
     requires room { first_count * second.now.count < 2 ^ 32 }
-    ensures { IfOk result (λ _. steps.new.items ≡ steps.old.items ++ all_beside_first second.now.steps.items second.now.count first_count) }
+    ensures { IfOk result (λ _. steps.new.items ≡ steps.old.items
+        ++ all_beside_first second.now.steps.items second.now.count first_count) }
 {
     for step in &second.steps {
         push_beside_first(steps, *step, first_count, second.count)?;
@@ -320,7 +328,8 @@ fn push_all_beside_first(
 fn all_beside(alloc: Global, first: &Nfa, second: &Nfa) -> Result<Vec<Transition>, NoMemory>
     requires within { IsWithin first.now × IsWithin second.now }
     requires room { first.now.count * second.now.count < 2 ^ 32 }
-    ensures { IfOk result (λ r. r.items ≡ all_beside_second first.now.steps.items second.now.count ++ all_beside_first second.now.steps.items second.now.count first.now.count) }
+    ensures { IfOk result (λ r. r.items ≡ all_beside_second first.now.steps.items second.now.count
+        ++ all_beside_first second.now.steps.items second.now.count first.now.count) }
 {
     let mut steps = Vec::new(alloc);
     push_all_beside_second(&mut steps, first, second.count)?;
@@ -333,7 +342,8 @@ fn push_pairs(ends: &mut Vec<u32>, x: u32, others: &Nfa, first_count: u32) -> Re
     requires within { IsWithin others.now }
     requires inside { x < first_count }
     requires room { first_count * others.now.count < 2 ^ 32 }
-    ensures { IfOk result (λ _. ends.new.items ≡ ends.old.items ++ pairs others.now.count x others.now.accepting.items) }
+    ensures { IfOk result (λ _. ends.new.items ≡ ends.old.items
+        ++ pairs others.now.count x others.now.accepting.items) }
 {
     for y in &others.accepting {
         ends.push(pair(others.count, x, *y))?;
@@ -345,7 +355,8 @@ fn push_pairs(ends: &mut Vec<u32>, x: u32, others: &Nfa, first_count: u32) -> Re
 fn pairs_of_ends(alloc: Global, first: &Nfa, second: &Nfa) -> Result<Vec<u32>, NoMemory>
     requires within { IsWithin first.now × IsWithin second.now }
     requires room { first.now.count * second.now.count < 2 ^ 32 }
-    ensures { IfOk result (λ r. r.items ≡ all_pairs second.now.count first.now.accepting.items second.now.accepting.items) }
+    ensures { IfOk result (λ r. r.items
+        ≡ all_pairs second.now.count first.now.accepting.items second.now.accepting.items) }
 {
     let mut ends = Vec::new(alloc);
     for x in &first.accepting {
@@ -358,7 +369,8 @@ fn pairs_of_ends(alloc: Global, first: &Nfa, second: &Nfa) -> Result<Vec<u32>, N
 pub fn interleave(alloc: Global, first: Nfa, second: Nfa) -> Result<Nfa, NoMemory>
     requires within { IsWithin first × IsWithin second }
     requires room { first.count * second.count < 2 ^ 32 }
-    ensures { (p q : Pattern) → Shows first (automaton p) → Shows second (automaton q) → IfOk result (λ r. Shows r (interleave_of (automaton p) (automaton q))) }
+    ensures { (p q : Pattern) → Shows first (automaton p) → Shows second (automaton q)
+        → IfOk result (λ r. Shows r (interleave_of (automaton p) (automaton q))) }
 {
     let ends = pairs_of_ends(alloc, &first, &second)?;
     let steps = all_beside(alloc, &first, &second)?;

@@ -14,7 +14,8 @@ use tc_base::NoMemory;
 
 /// The edges from state 0.
 fn first_steps(alloc: Global, part: &Nfa) -> Result<Vec<Transition>, NoMemory>
-    ensures { IfOk result (λ r. r.items ≡ filter (λ (x : Transition). x.from == 0) part.now.steps.items) }
+    ensures { IfOk result
+        (λ r. r.items ≡ filter (λ (x : Transition). x.from == 0) part.now.steps.items) }
 {
     let firsts = part
         .steps
@@ -129,7 +130,8 @@ fn push_from_all(
     firsts: &[Transition],
     hints: &[Vec<usize>],
 ) -> Result<(), NoMemory>
-    ensures { OnOk result (Gains steps.old.items steps.new.items (LeadsFromSome states.now firsts.now)) }
+    ensures { OnOk result
+        (Gains steps.old.items steps.new.items (LeadsFromSome states.now firsts.now)) }
 {
     for state in states {
         match hints.get(*state as usize) {
@@ -142,7 +144,8 @@ fn push_from_all(
 
 /// One or more, one after the other.
 pub fn repeat(alloc: Global, part: Nfa) -> Result<Nfa, NoMemory>
-    ensures { (p : Pattern) → Shows part (automaton p) → IfOk result (λ r. Shows r (repeat_of (automaton p))) }
+    ensures { (p : Pattern) → Shows part (automaton p)
+        → IfOk result (λ r. Shows r (repeat_of (automaton p))) }
 {
     let firsts = first_steps(alloc, &part)?;
     let hints = hints_of(alloc, &part, &firsts)?;

@@ -24,7 +24,8 @@ pub struct Row {
 /// Adds an edge if it begins at the state.
 fn push_edge(edges: &mut Vec<Edge>, step: Transition, base: u32, state: u32) -> Result<(), NoMemory>
     requires { step.to + base < 2 ^ 32 }
-    ensures { IfOk result (λ _. edges.new.items ≡ edges.old.items ++ edges_from base state (step ∷ [])) }
+    ensures { IfOk result
+        (λ _. edges.new.items ≡ edges.old.items ++ edges_from base state (step ∷ [])) }
 {
     if step.from == state {
         edges.push(Edge {
@@ -62,7 +63,8 @@ fn row_of(alloc: Global, part: &Nfa, base: u32, state: u32) -> Result<Row, NoMem
 fn push_rows(alloc: Global, rows: &mut Vec<Row>, part: &Nfa, base: u32) -> Result<(), NoMemory>
     requires within { IsWithin part.now }
     requires room { part.now.count + base < 2 ^ 32 }
-    ensures { IfOk result (λ _. (added : List Row) × (rows.new.items ≡ rows.old.items ++ added) × AreRowsOf part.now base part.now.count added) }
+    ensures { IfOk result (λ _. (added : List Row) × (rows.new.items ≡ rows.old.items ++ added)
+        × AreRowsOf part.now base part.now.count added) }
 {
     for state in 0..part.count {
         rows.push(row_of(alloc, part, base, state)?)?;
@@ -78,7 +80,8 @@ pub fn push_part(
     base: u32,
 ) -> Result<(), NoMemory>
     requires { (automaton (pattern pat.now)).count + base < 2 ^ 32 }
-    ensures { IfOk result (λ _. (added : List Row) × (rows.new.items ≡ rows.old.items ++ added) × AreRowsFor (automaton (pattern pat.now)) base added) }
+    ensures { IfOk result (λ _. (added : List Row) × (rows.new.items ≡ rows.old.items ++ added)
+        × AreRowsFor (automaton (pattern pat.now)) base added) }
 {
     let part = part_of(alloc, pat)?;
     push_rows(alloc, rows, &part, base)?;

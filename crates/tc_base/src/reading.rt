@@ -60,7 +60,8 @@ impl<'a> Cursor<'a> {
         ensures text { self.new.text ≡ self.old.text }
         ensures taken { IfOk result (λ o. IfSome o (λ c. Takes c self.old self.new)) }
         ensures end { IfOk result (λ o. IfNone o (IsAtEnd self.old × (self.new ≡ self.old))) }
-        ensures broken { IfErr result (λ at. IsBroken self.old × (self.new ≡ self.old) × (at.0 ≡ self.old.place)) }
+        ensures broken { IfErr result
+            (λ at. IsBroken self.old × (self.new ≡ self.old) × (at.0 ≡ self.old.place)) }
         ensures only_end { IsAtEnd self.old → result ≡ Ok None }
         ensures only_broken { IsBroken self.old → IsErr result }
         ensures advances { IfOk result (λ o. OnSome o (self.old.place < self.new.place)) }

@@ -44,7 +44,9 @@ fn do_pairs_fit(states: u32, pairs: &Pairs) -> bool
 /// Whether the lists of a row have their lengths and numbers, with members from a first one, where so many outputs are
 /// listed.
 fn do_lists_fit(first: u32, members: u32, ranges: Ranges, listed: u32, row: &Row) -> bool
-    ensures { IsTrue result ↔ RowFits first members ranges.outs ranges.looks listed (fields_of row.now).members (fields_of row.now).outs (fields_of row.now).looks }
+    ensures { IsTrue result
+        ↔ RowFits first members ranges.outs ranges.looks listed (fields_of row.now).members
+        (fields_of row.now).outs (fields_of row.now).looks }
 {
     row.outs.len() == ranges.outs as usize
         && row.looks.len() == ranges.looks as usize
@@ -80,8 +82,12 @@ fn first_output(
     states: u32,
 ) -> Result<Option<u32>, CertFault>
     requires { count ≤ 65536 }
-    ensures { (v : Version) (bytes : List ℕ) (s : Sizes) → s.output_states ≡ states → Stands v bytes (in_outputs v count []) reader.old
-        → MatchResult result (λ told. (os : List (List (ℕ × ℕ))) × (length os ≡ count) × Stands v bytes (in_outputs v count os) reader.new × Told s (data_of os [] []) told) (IsUnread bytes) }
+    ensures { (v : Version) (bytes : List ℕ) (s : Sizes) → s.output_states ≡ states
+        → Stands v bytes (in_outputs v count []) reader.old
+        → MatchResult result
+        (λ told. (os : List (List (ℕ × ℕ))) × (length os ≡ count)
+        × Stands v bytes (in_outputs v count os) reader.new × Told s (data_of os [] []) told)
+        (IsUnread bytes) }
 {
     let mut told = None;
     let mut before = None;
@@ -106,8 +112,13 @@ fn first_row(
     told_before: Option<u32>,
 ) -> Result<Option<u32>, CertFault>
     requires { count ≤ 4000 }
-    ensures { (v : Version) (bytes : List ℕ) (os : List (List (ℕ × ℕ))) (ts : List TreeLine) → length os ≡ listed → Stands v bytes (rows_front kind v os ts count []) reader.old → Told (sizes_of ranges) (rows_data kind os ts []) told_before
-        → MatchResult result (λ told. (rows : List Fields) × (length rows ≡ count) × Stands v bytes (rows_front kind v os ts count rows) reader.new × Told (sizes_of ranges) (rows_data kind os ts rows) told) (IsUnread bytes) }
+    ensures { (v : Version) (bytes : List ℕ) (os : List (List (ℕ × ℕ))) (ts : List TreeLine)
+        → length os ≡ listed → Stands v bytes (rows_front kind v os ts count []) reader.old
+        → Told (sizes_of ranges) (rows_data kind os ts []) told_before
+        → MatchResult result
+        (λ told. (rows : List Fields) × (length rows ≡ count)
+        × Stands v bytes (rows_front kind v os ts count rows) reader.new
+        × Told (sizes_of ranges) (rows_data kind os ts rows) told) (IsUnread bytes) }
 {
     let mut told = told_before;
     let mut before = None;
@@ -128,7 +139,10 @@ fn first_row(
 /// and time in proportion to the text.
 pub fn first_unfit(alloc: Global, text: &[u8], ranges: Ranges) -> Result<Option<u32>, CertFault>
     requires { length text.now ≤ 67108864 }
-    ensures ok { IfOk result (λ told. (d : CertData) × CertificateText text.now d × MatchOption told (AllFit (sizes_of ranges) d) (λ line. IsFirstUnfit (sizes_of ranges) d line)) }
+    ensures ok { IfOk result
+        (λ told. (d : CertData) × CertificateText text.now d
+        × MatchOption told (AllFit (sizes_of ranges) d)
+        (λ line. IsFirstUnfit (sizes_of ranges) d line)) }
     ensures fault { IfErr result (λ e. IsUnread text.now e) }
 {
     let mut reader = Reader::new(text)?;

@@ -48,8 +48,14 @@ fn put_lists(
     outs: &Numbers,
     looks: &Numbers,
 ) -> Result<(), CertWriteFault>
-    ensures ok { OnOk result (IsPut text.old text.new (lines.field (lines.numbers members.now) ++ lines.field (lines.numbers outs.now) ++ lines.field (lines.numbers looks.now))) }
-    ensures cause { IfErr result (IsCause text.old (lines.field (lines.numbers members.now) ++ lines.field (lines.numbers outs.now) ++ lines.field (lines.numbers looks.now))) }
+    ensures ok { OnOk result
+        (IsPut text.old text.new
+        (lines.field (lines.numbers members.now) ++ lines.field (lines.numbers outs.now)
+        ++ lines.field (lines.numbers looks.now))) }
+    ensures cause { IfErr result
+        (IsCause text.old
+        (lines.field (lines.numbers members.now) ++ lines.field (lines.numbers outs.now)
+        ++ lines.field (lines.numbers looks.now))) }
 {
     put_field(text, members)?;
     put_field(text, outs)?;

@@ -17,7 +17,8 @@ use tc_model::Pairs;
 
 /// What follows this byte, where the bytes begin with it.
 pub(crate) fn after_byte(bytes: &[u8], byte: u8) -> Option<&[u8]>
-    ensures { MatchOption result ((r : List ℕ) → bytes.now ≡ byte ∷ r → ⊥) (λ rest. bytes.now ≡ byte ∷ rest.now) }
+    ensures { MatchOption result ((r : List ℕ) → bytes.now ≡ byte ∷ r → ⊥)
+        (λ rest. bytes.now ≡ byte ∷ rest.now) }
 {
     let Some((first, rest)) = bytes.split_first() else {
         return None;
@@ -43,7 +44,8 @@ fn digit_len(bytes: &[u8]) -> usize
 /// The number that digits write, where it has 32 bits.
 fn value_of(digits: &[u8]) -> Option<u32>
     requires { AllDigits 10 digits.now }
-    ensures { MatchOption result (4294967296 ≤ digits_value 10 digits.now) (λ n. n ≡ digits_value 10 digits.now) }
+    ensures { MatchOption result (4294967296 ≤ digits_value 10 digits.now)
+        (λ n. n ≡ digits_value 10 digits.now) }
 {
     let mut value: u64 = 0;
     for digit in digits {
@@ -67,7 +69,8 @@ fn is_numeral(digits: &[u8]) -> bool
 
 /// The number at the front, in decimal digits without a leading zero, and what follows it.
 pub(crate) fn number(bytes: &[u8]) -> Option<(u32, &[u8])>
-    ensures { MatchOption result ((n : ℕ) (rest : List ℕ) → IsNumberAt bytes.now n rest → ⊥) (λ r. IsNumberAt bytes.now r.0 r.1.now) }
+    ensures { MatchOption result ((n : ℕ) (rest : List ℕ) → IsNumberAt bytes.now n rest → ⊥)
+        (λ r. IsNumberAt bytes.now r.0 r.1.now) }
 {
     let (digits, rest) = bytes.split_at(digit_len(bytes));
     if !is_numeral(digits) {
@@ -82,7 +85,9 @@ pub(crate) fn number(bytes: &[u8]) -> Option<(u32, &[u8])>
 /// Two numbers at the front with a byte between them, and what follows them.
 fn two(bytes: &[u8], between: u8) -> Option<((u32, u32), &[u8])>
     requires { digit_value between < 10 → ⊥ }
-    ensures { MatchOption result ((p : ℕ × ℕ) (rest : List ℕ) → IsTwoAt between bytes.now p rest → ⊥) (λ r. IsTwoAt between bytes.now r.0 r.1.now) }
+    ensures { MatchOption result
+        ((p : ℕ × ℕ) (rest : List ℕ) → IsTwoAt between bytes.now p rest → ⊥)
+        (λ r. IsTwoAt between bytes.now r.0 r.1.now) }
 {
     let Some((first, middle)) = number(bytes) else {
         return None;
@@ -98,7 +103,8 @@ fn two(bytes: &[u8], between: u8) -> Option<((u32, u32), &[u8])>
 
 /// What follows a dash and this byte, where the bytes begin with them.
 fn after_dash(bytes: &[u8], end: u8) -> Option<&[u8]>
-    ensures { MatchOption result ((r : List ℕ) → bytes.now ≡ 45 ∷ end ∷ r → ⊥) (λ rest. bytes.now ≡ 45 ∷ end ∷ rest.now) }
+    ensures { MatchOption result ((r : List ℕ) → bytes.now ≡ 45 ∷ end ∷ r → ⊥)
+        (λ rest. bytes.now ≡ 45 ∷ end ∷ rest.now) }
 {
     let Some(behind) = after_byte(bytes, b'-') else {
         return None;
@@ -110,7 +116,8 @@ fn after_dash(bytes: &[u8], end: u8) -> Option<&[u8]>
 pub(crate) fn numbers(alloc: Global, bytes: &[u8], end: u8) -> Result<(Vec<u32>, &[u8]), PieceFault>
     requires { (end ≡ 32) ⊎ (end ≡ 10) }
     ensures ok { IfOk result (λ r. AreNumbersAt end bytes.now r.0.items r.1.now) }
-    ensures no { IfErr result (IsMissing ((ns : List ℕ) × (rest : List ℕ) × AreNumbersAt end bytes.now ns rest)) }
+    ensures no { IfErr result
+        (IsMissing ((ns : List ℕ) × (rest : List ℕ) × AreNumbersAt end bytes.now ns rest)) }
 {
     let mut found = Vec::new(alloc);
     if let Some(rest) = after_dash(bytes, end) {
@@ -140,7 +147,8 @@ pub(crate) fn changes(
 ) -> Result<(Vec<(u32, u32)>, &[u8]), PieceFault>
     requires { (end ≡ 32) ⊎ (end ≡ 10) }
     ensures ok { IfOk result (λ r. AreChangesAt end bytes.now r.0.items r.1.now) }
-    ensures no { IfErr result (IsMissing ((cs : List (ℕ × ℕ)) × (rest : List ℕ) × AreChangesAt end bytes.now cs rest)) }
+    ensures no { IfErr result
+        (IsMissing ((cs : List (ℕ × ℕ)) × (rest : List ℕ) × AreChangesAt end bytes.now cs rest)) }
 {
     let mut found = Vec::new(alloc);
     if let Some(rest) = after_dash(bytes, end) {
@@ -164,7 +172,9 @@ pub(crate) fn changes(
 
 /// A pair at the front behind a space, and what follows it.
 fn pair(bytes: &[u8]) -> Option<((u32, u32), &[u8])>
-    ensures { MatchOption result ((p : ℕ × ℕ) (before rest : List ℕ) → bytes.now ≡ 32 ∷ before → IsTwoAt 62 before p rest → ⊥)
+    ensures { MatchOption result
+        ((p : ℕ × ℕ) (before rest : List ℕ) → bytes.now ≡ 32 ∷ before → IsTwoAt 62 before p rest
+        → ⊥)
         (λ r. (before : List ℕ) × (bytes.now ≡ 32 ∷ before) × IsTwoAt 62 before r.0 r.1.now) }
 {
     let Some(behind) = after_byte(bytes, b' ') else {
@@ -177,7 +187,8 @@ fn pair(bytes: &[u8]) -> Option<((u32, u32), &[u8])>
 pub(crate) fn pairs(alloc: Global, bytes: &[u8]) -> Result<(Pairs, &[u8]), PieceFault>
     requires { length bytes.now ≤ 67108864 }
     ensures ok { IfOk result (λ r. ArePairsAt bytes.now r.0 r.1.now) }
-    ensures no { IfErr result (IsMissing ((ps : List (ℕ × ℕ)) × (rest : List ℕ) × ArePairsAt bytes.now ps rest)) }
+    ensures no { IfErr result
+        (IsMissing ((ps : List (ℕ × ℕ)) × (rest : List ℕ) × ArePairsAt bytes.now ps rest)) }
 {
     let mut found = Pairs::new(alloc);
     let mut rest = bytes;
@@ -195,7 +206,9 @@ pub(crate) fn pairs(alloc: Global, bytes: &[u8]) -> Result<(Pairs, &[u8]), Piece
 
 /// A truth value at the front before a space, and what follows it.
 fn flag(bytes: &[u8]) -> Option<(bool, &[u8])>
-    ensures { MatchOption result ((holds : Bool) (rest : List ℕ) → bytes.now ≡ lines.flag holds ∷ 32 ∷ rest → ⊥) (λ r. bytes.now ≡ lines.flag r.0 ∷ 32 ∷ r.1.now) }
+    ensures { MatchOption result
+        ((holds : Bool) (rest : List ℕ) → bytes.now ≡ lines.flag holds ∷ 32 ∷ rest → ⊥)
+        (λ r. bytes.now ≡ lines.flag r.0 ∷ 32 ∷ r.1.now) }
 {
     let Some((first, rest)) = bytes.split_first() else {
         return None;
@@ -213,7 +226,9 @@ fn flag(bytes: &[u8]) -> Option<(bool, &[u8])>
 
 /// The letter of a row and its two truth values at the front, and what follows them.
 fn flags(bytes: &[u8], letter: u8) -> Option<(bool, bool, &[u8])>
-    ensures { MatchOption result ((one other : Bool) (rest : List ℕ) → FlagsAt letter bytes.now one other rest → ⊥) (λ r. FlagsAt letter bytes.now r.0 r.1 r.2.now) }
+    ensures { MatchOption result
+        ((one other : Bool) (rest : List ℕ) → FlagsAt letter bytes.now one other rest → ⊥)
+        (λ r. FlagsAt letter bytes.now r.0 r.1 r.2.now) }
 {
     let Some(behind) = after_byte(bytes, letter) else {
         return None;
@@ -282,8 +297,11 @@ pub(crate) fn front(
     bytes: &[u8],
     letter: u8,
 ) -> Result<(RowFront, &[u8]), PieceFault>
-    ensures ok { IfOk result (λ r. IsFrontAt letter bytes.now r.0.one r.0.other r.0.members.items r.1.now) }
-    ensures no { IfErr result (IsMissing ((one : Bool) × (other : Bool) × (members : List ℕ) × (rest : List ℕ) × IsFrontAt letter bytes.now one other members rest)) }
+    ensures ok { IfOk result
+        (λ r. IsFrontAt letter bytes.now r.0.one r.0.other r.0.members.items r.1.now) }
+    ensures no { IfErr result
+        (IsMissing ((one : Bool) × (other : Bool) × (members : List ℕ) × (rest : List ℕ)
+        × IsFrontAt letter bytes.now one other members rest)) }
 {
     let Some((one, other, rest)) = flags(bytes, letter) else {
         return Err(PieceFault::Form);

@@ -25,7 +25,8 @@ use tc_model::Pairs;
 
 /// What follows this text, where the bytes begin with it.
 pub(crate) fn after_text<'t>(bytes: &'t [u8], text: &[u8]) -> Option<&'t [u8]>
-    ensures { MatchOption result ((r : List ℕ) → bytes.now ≡ text.now ++ r → ⊥) (λ rest. bytes.now ≡ text.now ++ rest.now) }
+    ensures { MatchOption result ((r : List ℕ) → bytes.now ≡ text.now ++ r → ⊥)
+        (λ rest. bytes.now ≡ text.now ++ rest.now) }
 {
     if bytes.starts_with(text) {
         Some(&bytes[text.len()..])
@@ -36,7 +37,9 @@ pub(crate) fn after_text<'t>(bytes: &'t [u8], text: &[u8]) -> Option<&'t [u8]>
 
 /// The first line at the front, and the next line.
 fn first_line(bytes: &[u8]) -> Option<(Style, &[u8])>
-    ensures { MatchOption result ((v : Version) (rest : List ℕ) → bytes.now ≡ heading v ++ 10 ∷ rest → ⊥) (λ r. bytes.now ≡ heading (version_of r.0) ++ 10 ∷ r.1.now) }
+    ensures { MatchOption result
+        ((v : Version) (rest : List ℕ) → bytes.now ≡ heading v ++ 10 ∷ rest → ⊥)
+        (λ r. bytes.now ≡ heading (version_of r.0) ++ 10 ∷ r.1.now) }
 {
     if let Some(rest) = after_text(bytes, b"xslt-typecheck certificate 1\n") {
         return Some((Style::Whole, rest));
@@ -49,7 +52,8 @@ fn first_line(bytes: &[u8]) -> Option<(Style, &[u8])>
 
 /// The line at the front that tells how many lines of a kind follow, at most so many, and the next line.
 fn count_line<'t>(bytes: &'t [u8], kind: &[u8], most: u32) -> Option<(u32, &'t [u8])>
-    ensures { MatchOption result ((n : ℕ) (rest : List ℕ) → n ≤ most → bytes.now ≡ counted kind.now n ++ 10 ∷ rest → ⊥)
+    ensures { MatchOption result
+        ((n : ℕ) (rest : List ℕ) → n ≤ most → bytes.now ≡ counted kind.now n ++ 10 ∷ rest → ⊥)
         (λ r. (r.0 ≤ most) × (bytes.now ≡ counted kind.now r.0 ++ 10 ∷ r.1.now)) }
 {
     let Some(behind) = after_text(bytes, kind) else {
@@ -80,7 +84,8 @@ fn is_less(order: Ordering) -> bool
 /// Whether an output stands behind another.
 fn is_behind(alloc: Global, before: Option<&Pairs>, pairs: &Pairs) -> Result<bool, PieceFault>
     requires { ArePairs pairs.now × IfSome before (λ b. ArePairs b.now) }
-    ensures ok { IfOk result (λ is. (is ≡ true → IsAfterLent before.entry pairs.now) × (IsAfterLent before.entry pairs.now → is ≡ true)) }
+    ensures ok { IfOk result (λ is. (is ≡ true → IsAfterLent before.entry pairs.now)
+        × (IsAfterLent before.entry pairs.now → is ≡ true)) }
     ensures no { IfErr result (λ e. e ≡ NoMemory) }
 {
     match before {
@@ -100,8 +105,11 @@ fn output_line<'t>(
 ) -> Result<(Pairs, &'t [u8]), PieceFault>
     requires short { length bytes.now ≤ 67108864 }
     requires before { IfSome before (λ b. ArePairs b.now) }
-    ensures ok { IfOk result (λ r. ArePairs r.0 × IsAfterLent before.entry r.0 × (bytes.now ≡ lines.pairs_line r.0 ++ 10 ∷ r.1.now)) }
-    ensures no { IfErr result (IsMissing ((ps : List (ℕ × ℕ)) × (rest : List ℕ) × ArePairs ps × IsAfterLent before.entry ps × (bytes.now ≡ lines.pairs_line ps ++ 10 ∷ rest))) }
+    ensures ok { IfOk result (λ r. ArePairs r.0 × IsAfterLent before.entry r.0
+        × (bytes.now ≡ lines.pairs_line r.0 ++ 10 ∷ r.1.now)) }
+    ensures no { IfErr result
+        (IsMissing ((ps : List (ℕ × ℕ)) × (rest : List ℕ) × ArePairs ps
+        × IsAfterLent before.entry ps × (bytes.now ≡ lines.pairs_line ps ++ 10 ∷ rest))) }
 {
     let Some(inside) = after_byte(bytes, b'm') else {
         return Err(PieceFault::Form);
@@ -121,7 +129,8 @@ impl<'t> Reader<'t> {
     /// Reads the first line.
     pub(crate) fn new(text: &'t [u8]) -> Result<Reader<'t>, CertFault>
         requires { length text.now ≤ 67108864 }
-        ensures { MatchResult result (λ r. (v : Version) × Stands v text.now (begun v) r) (λ e. IsUnread text.now e) }
+        ensures { MatchResult result (λ r. (v : Version) × Stands v text.now (begun v) r)
+            (λ e. IsUnread text.now e) }
     {
         match first_line(text) {
             Some((style, rest)) => Ok(Reader {
@@ -146,7 +155,10 @@ impl<'t> Reader<'t> {
     /// Reads the line that tells how many lines of a kind follow, at most so many.
     pub(crate) fn count(&mut self, kind: &[u8], most: u32) -> Result<u32, CertFault>
         ensures ok { IfOk result (λ n. (n ≤ most) × Passes (counted kind.now n) self.old self.new) }
-        ensures no { IfErr result (IsNextFault self.old.lines ((n : ℕ) × (rest : List ℕ) × (n ≤ most) × (self.old.rest.now ≡ counted kind.now n ++ 10 ∷ rest))) }
+        ensures no { IfErr result
+            (IsNextFault self.old.lines
+            ((n : ℕ) × (rest : List ℕ) × (n ≤ most)
+            × (self.old.rest.now ≡ counted kind.now n ++ 10 ∷ rest))) }
     {
         match count_line(self.rest, kind, most) {
             Some((count, rest)) => {
@@ -164,8 +176,12 @@ impl<'t> Reader<'t> {
         before: Option<&Pairs>,
     ) -> Result<Pairs, CertFault>
         requires { IfSome before (λ b. ArePairs b.now) }
-        ensures ok { IfOk result (λ ps. ArePairs ps × IsAfterLent before.entry ps × Passes (lines.pairs_line ps) self.old self.new) }
-        ensures no { IfErr result (IsNextFault self.old.lines ((ps : List (ℕ × ℕ)) × (rest : List ℕ) × ArePairs ps × IsAfterLent before.entry ps × (self.old.rest.now ≡ lines.pairs_line ps ++ 10 ∷ rest))) }
+        ensures ok { IfOk result (λ ps. ArePairs ps × IsAfterLent before.entry ps
+            × Passes (lines.pairs_line ps) self.old self.new) }
+        ensures no { IfErr result
+            (IsNextFault self.old.lines
+            ((ps : List (ℕ × ℕ)) × (rest : List ℕ) × ArePairs ps × IsAfterLent before.entry ps
+            × (self.old.rest.now ≡ lines.pairs_line ps ++ 10 ∷ rest))) }
     {
         match output_line(alloc, self.rest, before) {
             Ok((pairs, rest)) => {
@@ -184,9 +200,16 @@ impl<'t> Reader<'t> {
         before: Option<Row>,
     ) -> Result<Row, CertFault>
         requires { IfSome before (λ b. IsFormedRow (fields_of b) × IsShort (fields_of b)) }
-        ensures ok { IfOk result (λ r. IsNextRow (version_of self.old.style) kind (option_map fields_of before) self.old.rest.now (fields_of r) self.new.rest.now × (self.new.lines ≡ self.old.lines + 1) × (self.new.style ≡ self.old.style)) }
+        ensures ok { IfOk result
+            (λ r. IsNextRow (version_of self.old.style) kind
+            (option_map fields_of before) self.old.rest.now (fields_of r) self.new.rest.now
+            × (self.new.lines ≡ self.old.lines + 1) × (self.new.style ≡ self.old.style)) }
         ensures short { IfOk result (λ r. IsShort (fields_of r)) }
-        ensures no { IfErr result (IsNextFault self.old.lines ((f : Fields) × (rest : List ℕ) × IsNextRow (version_of self.old.style) kind (option_map fields_of before) self.old.rest.now f rest)) }
+        ensures no { IfErr result
+            (IsNextFault self.old.lines
+            ((f : Fields) × (rest : List ℕ)
+            × IsNextRow (version_of self.old.style) kind
+            (option_map fields_of before) self.old.rest.now f rest)) }
     {
         match next_row(alloc, self.rest, kind, self.style, before) {
             Ok((row, rest)) => {
@@ -199,7 +222,8 @@ impl<'t> Reader<'t> {
 
     /// Reads the last line, behind which nothing may stand.
     pub(crate) fn end(&self) -> Result<(), CertFault>
-        ensures { MatchResult result (λ _. self.now.rest.now ≡ codes "end" ++ 10 ∷ []) (IsEndFault self.now) }
+        ensures { MatchResult result (λ _. self.now.rest.now ≡ codes "end" ++ 10 ∷ [])
+            (IsEndFault self.now) }
     {
         let Some(rest) = after_text(self.rest, b"end\n") else {
             return Err(CertFault::Form(self.lines + 1));

@@ -30,7 +30,8 @@ fn numbers_of(alloc: Global, numbers: &[u32]) -> Result<Numbers, NoMemory>
 /// The members of a row, its outputs and its looks.
 fn lists_of(alloc: Global, row: &Row) -> Result<(Numbers, Numbers, Numbers), NoMemory>
     requires { IsShort (fields_of row.now) }
-    ensures { IfOk result (λ l. (l.0 ≡ (fields_of row.now).members) × (l.1 ≡ (fields_of row.now).outs) × (l.2 ≡ (fields_of row.now).looks)) }
+    ensures { IfOk result (λ l. (l.0 ≡ (fields_of row.now).members)
+        × (l.1 ≡ (fields_of row.now).outs) × (l.2 ≡ (fields_of row.now).looks)) }
 {
     let members = numbers_of(alloc, &row.members)?;
     let outs = numbers_of(alloc, &row.outs)?;
@@ -72,7 +73,8 @@ fn push_hedge(alloc: Global, hedges: &mut HedgeLines, row: &Row) -> Result<(), N
 
 /// The last output.
 fn last_output(outputs: &PairLists) -> Option<&Pairs>
-    ensures { MatchOption result (last_of outputs.now ≡ None) (λ b. last_of outputs.now ≡ Some b.now) }
+    ensures { MatchOption result (last_of outputs.now ≡ None)
+        (λ b. last_of outputs.now ≡ Some b.now) }
 {
     if outputs.len() == 0 {
         return None;
@@ -82,7 +84,9 @@ fn last_output(outputs: &PairLists) -> Option<&Pairs>
 
 /// Reads the lines of outputs, and how many they are.
 fn read_outputs(alloc: Global, reader: &mut Reader<'_>) -> Result<PairLists, CertFault>
-    ensures { (v : Version) (bytes : List ℕ) → Stands v bytes (begun v) reader.old → MatchResult result (λ os. Stands v bytes (in_outputs v (length os) os) reader.new) (IsUnread bytes) }
+    ensures { (v : Version) (bytes : List ℕ) → Stands v bytes (begun v) reader.old
+        → MatchResult result (λ os. Stands v bytes (in_outputs v (length os) os) reader.new)
+        (IsUnread bytes) }
 {
     let count = reader.count(b"outputs", 65536)?;
     let mut outputs = PairLists::new(alloc);
@@ -95,7 +99,10 @@ fn read_outputs(alloc: Global, reader: &mut Reader<'_>) -> Result<PairLists, Cer
 
 /// Reads the rows of trees, and how many they are.
 fn read_trees(alloc: Global, reader: &mut Reader<'_>) -> Result<TreeLines, CertFault>
-    ensures { (v : Version) (bytes : List ℕ) (os : List (List (ℕ × ℕ))) → Stands v bytes (in_outputs v (length os) os) reader.old → MatchResult result (λ ts. Stands v bytes (in_trees v os (length ts) ts) reader.new) (IsUnread bytes) }
+    ensures { (v : Version) (bytes : List ℕ) (os : List (List (ℕ × ℕ)))
+        → Stands v bytes (in_outputs v (length os) os) reader.old
+        → MatchResult result (λ ts. Stands v bytes (in_trees v os (length ts) ts) reader.new)
+        (IsUnread bytes) }
 {
     let count = reader.count(b"trees", 4000)?;
     let mut trees = TreeLines::new(alloc);
@@ -110,7 +117,10 @@ fn read_trees(alloc: Global, reader: &mut Reader<'_>) -> Result<TreeLines, CertF
 
 /// Reads the rows of lists of trees, and how many they are.
 fn read_hedges(alloc: Global, reader: &mut Reader<'_>) -> Result<HedgeLines, CertFault>
-    ensures { (v : Version) (bytes : List ℕ) (os : List (List (ℕ × ℕ))) (ts : List TreeLine) → Stands v bytes (in_trees v os (length ts) ts) reader.old → MatchResult result (λ hs. Stands v bytes (in_hedges v os ts (length hs) hs) reader.new) (IsUnread bytes) }
+    ensures { (v : Version) (bytes : List ℕ) (os : List (List (ℕ × ℕ))) (ts : List TreeLine)
+        → Stands v bytes (in_trees v os (length ts) ts) reader.old
+        → MatchResult result (λ hs. Stands v bytes (in_hedges v os ts (length hs) hs) reader.new)
+        (IsUnread bytes) }
 {
     let count = reader.count(b"hedges", 4000)?;
     let mut hedges = HedgeLines::new(alloc);

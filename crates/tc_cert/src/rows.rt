@@ -60,7 +60,8 @@ pub(crate) struct Row {
 /// The row at the front that is written whole, and the next line.
 pub(crate) fn whole(alloc: Global, bytes: &[u8], kind: Kind) -> Result<(Row, &[u8]), PieceFault>
     ensures ok { IfOk result (λ r. IsWholeAt kind bytes.now (fields_of r.0) r.1.now) }
-    ensures no { IfErr result (IsMissing ((f : Fields) × (rest : List ℕ) × IsWholeAt kind bytes.now f rest)) }
+    ensures no { IfErr result
+        (IsMissing ((f : Fields) × (rest : List ℕ) × IsWholeAt kind bytes.now f rest)) }
 {
     let (front, rest) = front(alloc, bytes, kind.letter())?;
     let (outs, rest) = numbers(alloc, rest, b' ')?;
@@ -102,7 +103,8 @@ fn is_change(numbers: &[u32], next: usize, change: (u32, u32)) -> bool
 
 /// Makes the changes, where each stands behind the one before it and puts another number than before.
 fn apply(numbers: &mut Vec<u32>, changes: &[(u32, u32)]) -> bool
-    ensures { MatchBool result (AreChanged numbers.old.items changes.now numbers.new.items) ((new : List ℕ) → AreChanged numbers.old.items changes.now new → ⊥) }
+    ensures { MatchBool result (AreChanged numbers.old.items changes.now numbers.new.items)
+        ((new : List ℕ) → AreChanged numbers.old.items changes.now new → ⊥) }
 {
     let mut next = 0;
     for change in changes {
@@ -123,8 +125,13 @@ fn with_changes(
     looks: &[(u32, u32)],
 ) -> Option<Row>
     requires { All (λ n. n ≤ 2) before.looks.items }
-    ensures { MatchOption result ((f : Fields) → IsMade (fields_of before) front.one front.other front.members.items outs.now looks.now f → ⊥)
-        (λ r. IsMade (fields_of before) front.one front.other front.members.items outs.now looks.now (fields_of r)) }
+    ensures { MatchOption result
+        ((f : Fields)
+        → IsMade (fields_of before) front.one front.other front.members.items outs.now looks.now f
+        → ⊥)
+        (λ r. IsMade
+        (fields_of before) front.one front.other front.members.items outs.now looks.now
+        (fields_of r)) }
 {
     let mut row = Row {
         one: front.one,
@@ -147,7 +154,9 @@ fn with_changes(
 
 /// Whether the row that changes make of another stands behind it.
 fn is_behind(before: &Row, front: &RowFront, outs: &[(u32, u32)], looks: &[(u32, u32)]) -> bool
-    ensures { IsMadeBehind (fields_of before.now) front.now.one front.now.other front.now.members.items outs.now looks.now result }
+    ensures { IsMadeBehind
+        (fields_of before.now) front.now.one front.now.other front.now.members.items outs.now
+        looks.now result }
 {
     front_order(before, front.one, front.other, &front.members)
         .then(changes_order(&before.outs, outs))
@@ -158,8 +167,13 @@ fn is_behind(before: &Row, front: &RowFront, outs: &[(u32, u32)], looks: &[(u32,
 /// The row at the front that is written by its changes of another, behind which it stands, and the next line.
 fn changed(alloc: Global, bytes: &[u8], kind: Kind, before: Row) -> Result<(Row, &[u8]), PieceFault>
     requires { IsFormedRow (fields_of before) × IsShort (fields_of before) }
-    ensures ok { IfOk result (λ r. IsChangedAt kind (fields_of before) bytes.now (fields_of r.0) r.1.now × IsBehind (row_line kind) (Some (fields_of before)) (fields_of r.0)) }
-    ensures no { IfErr result (IsMissing ((f : Fields) × (rest : List ℕ) × IsChangedAt kind (fields_of before) bytes.now f rest × IsBehind (row_line kind) (Some (fields_of before)) f)) }
+    ensures ok { IfOk result
+        (λ r. IsChangedAt kind (fields_of before) bytes.now (fields_of r.0) r.1.now
+        × IsBehind (row_line kind) (Some (fields_of before)) (fields_of r.0)) }
+    ensures no { IfErr result
+        (IsMissing
+        ((f : Fields) × (rest : List ℕ) × IsChangedAt kind (fields_of before) bytes.now f rest
+        × IsBehind (row_line kind) (Some (fields_of before)) f)) }
 {
     let (front, rest) = front(alloc, bytes, kind.changes_letter())?;
     let (outs, rest) = changes(alloc, rest, b' ')?;
@@ -200,8 +214,11 @@ fn whole_behind<'t>(
     before: &Row,
 ) -> Result<(Row, &'t [u8]), PieceFault>
     requires { IsFormedRow (fields_of before.now) }
-    ensures ok { IfOk result (λ r. IsWholeBehind style kind (fields_of before.now) bytes.now (fields_of r.0) r.1.now) }
-    ensures no { IfErr result (IsMissing ((f : Fields) × (rest : List ℕ) × IsWholeBehind style kind (fields_of before.now) bytes.now f rest)) }
+    ensures ok { IfOk result
+        (λ r. IsWholeBehind style kind (fields_of before.now) bytes.now (fields_of r.0) r.1.now) }
+    ensures no { IfErr result
+        (IsMissing ((f : Fields) × (rest : List ℕ)
+        × IsWholeBehind style kind (fields_of before.now) bytes.now f rest)) }
 {
     let (row, rest) = whole(alloc, bytes, kind)?;
     if !may_be_whole(style, before, &row) {
@@ -212,7 +229,8 @@ fn whole_behind<'t>(
 
 /// Whether the next row is written by its changes.
 fn is_by_changes(bytes: &[u8], kind: Kind, style: Style) -> bool
-    ensures { MatchBool result (IsByChanges style kind bytes.now) (IsByChanges style kind bytes.now → ⊥) }
+    ensures { MatchBool result (IsByChanges style kind bytes.now)
+        (IsByChanges style kind bytes.now → ⊥) }
 {
     match style {
         Style::Whole => false,
@@ -232,8 +250,12 @@ fn row_behind(
     before: Row,
 ) -> Result<(Row, &[u8]), PieceFault>
     requires { IsFormedRow (fields_of before) × IsShort (fields_of before) }
-    ensures ok { IfOk result (λ r. IsNextRow (version_of style) kind (Some (fields_of before)) bytes.now (fields_of r.0) r.1.now) }
-    ensures no { IfErr result (IsMissing ((f : Fields) × (rest : List ℕ) × IsNextRow (version_of style) kind (Some (fields_of before)) bytes.now f rest)) }
+    ensures ok { IfOk result
+        (λ r. IsNextRow (version_of style) kind (Some (fields_of before)) bytes.now
+        (fields_of r.0) r.1.now) }
+    ensures no { IfErr result
+        (IsMissing ((f : Fields) × (rest : List ℕ)
+        × IsNextRow (version_of style) kind (Some (fields_of before)) bytes.now f rest)) }
 {
     if is_by_changes(bytes, kind, style) {
         changed(alloc, bytes, kind, before)
@@ -251,8 +273,12 @@ pub(crate) fn next_row(
     before: Option<Row>,
 ) -> Result<(Row, &[u8]), PieceFault>
     requires { IfSome before (λ b. IsFormedRow (fields_of b) × IsShort (fields_of b)) }
-    ensures ok { IfOk result (λ r. IsNextRow (version_of style) kind (option_map fields_of before) bytes.now (fields_of r.0) r.1.now) }
-    ensures no { IfErr result (IsMissing ((f : Fields) × (rest : List ℕ) × IsNextRow (version_of style) kind (option_map fields_of before) bytes.now f rest)) }
+    ensures ok { IfOk result
+        (λ r. IsNextRow (version_of style) kind (option_map fields_of before) bytes.now
+        (fields_of r.0) r.1.now) }
+    ensures no { IfErr result
+        (IsMissing ((f : Fields) × (rest : List ℕ)
+        × IsNextRow (version_of style) kind (option_map fields_of before) bytes.now f rest)) }
 {
     match before {
         None => whole(alloc, bytes, kind),

@@ -71,7 +71,8 @@ fn put_changed(
     old: &Numbers,
     new: &Numbers,
 ) -> Result<(), CertWriteFault>
-    ensures ok { OnOk result (IsPut text.old text.new (lines.field (lines.changed old.now new.now))) }
+    ensures ok { OnOk result
+        (IsPut text.old text.new (lines.field (lines.changed old.now new.now))) }
     ensures cause { IfErr result (IsCause text.old (lines.field (lines.changed old.now new.now))) }
 {
     let changes = changes_of(alloc, old, new)?;
@@ -89,8 +90,16 @@ fn put_changed_lists(
     old_looks: &Numbers,
     looks: &Numbers,
 ) -> Result<(), CertWriteFault>
-    ensures ok { OnOk result (IsPut text.old text.new (lines.field (lines.numbers members.now) ++ lines.field (lines.changed old_outs.now outs.now) ++ lines.field (lines.changed old_looks.now looks.now))) }
-    ensures cause { IfErr result (IsCause text.old (lines.field (lines.numbers members.now) ++ lines.field (lines.changed old_outs.now outs.now) ++ lines.field (lines.changed old_looks.now looks.now))) }
+    ensures ok { OnOk result
+        (IsPut text.old text.new
+        (lines.field (lines.numbers members.now)
+        ++ lines.field (lines.changed old_outs.now outs.now)
+        ++ lines.field (lines.changed old_looks.now looks.now))) }
+    ensures cause { IfErr result
+        (IsCause text.old
+        (lines.field (lines.numbers members.now)
+        ++ lines.field (lines.changed old_outs.now outs.now)
+        ++ lines.field (lines.changed old_looks.now looks.now))) }
 {
     put_field(text, members)?;
     put_changed(alloc, text, old_outs, outs)?;
@@ -156,7 +165,8 @@ fn put_hedge_behind(
 
 /// Puts a line that tells how many lines of a kind follow.
 fn put_count(text: &mut Text, kind: &[u8], count: u32) -> Result<(), CertWriteFault>
-    ensures ok { OnOk result (IsPut text.old text.new (texts.ended (texts.counted kind.now count))) }
+    ensures ok { OnOk result
+        (IsPut text.old text.new (texts.ended (texts.counted kind.now count))) }
     ensures cause { IfErr result (IsCause text.old (texts.ended (texts.counted kind.now count))) }
 {
     text.put(kind)?;
@@ -181,8 +191,10 @@ fn put_outputs(text: &mut Text, outputs: &PairLists) -> Result<(), CertWriteFaul
 /// Puts the rows of trees, of which there are some.
 fn put_tree_rows(alloc: Global, text: &mut Text, trees: &TreeLines) -> Result<(), CertWriteFault>
     requires { 0 < length trees.now }
-    ensures ok { OnOk result (IsPut text.old text.new (texts.rows_in lines.tree_line lines.tree_behind trees.now)) }
-    ensures cause { IfErr result (IsCause text.old (texts.rows_in lines.tree_line lines.tree_behind trees.now)) }
+    ensures ok { OnOk result
+        (IsPut text.old text.new (texts.rows_in lines.tree_line lines.tree_behind trees.now)) }
+    ensures cause { IfErr result
+        (IsCause text.old (texts.rows_in lines.tree_line lines.tree_behind trees.now)) }
 {
     let first = trees.get(0);
     put_tree_line(text, first)?;
@@ -211,8 +223,10 @@ fn put_trees(alloc: Global, text: &mut Text, trees: &TreeLines) -> Result<(), Ce
 /// Puts the rows of lists of trees, of which there are some.
 fn put_hedge_rows(alloc: Global, text: &mut Text, hedges: &HedgeLines) -> Result<(), CertWriteFault>
     requires { 0 < length hedges.now }
-    ensures ok { OnOk result (IsPut text.old text.new (texts.rows_in lines.hedge_line lines.hedge_behind hedges.now)) }
-    ensures cause { IfErr result (IsCause text.old (texts.rows_in lines.hedge_line lines.hedge_behind hedges.now)) }
+    ensures ok { OnOk result
+        (IsPut text.old text.new (texts.rows_in lines.hedge_line lines.hedge_behind hedges.now)) }
+    ensures cause { IfErr result
+        (IsCause text.old (texts.rows_in lines.hedge_line lines.hedge_behind hedges.now)) }
 {
     let first = hedges.get(0);
     put_hedge_line(text, first)?;
@@ -264,7 +278,8 @@ fn put_text(alloc: Global, text: &mut Text, cert: &CertData) -> Result<(), CertW
 pub fn write_cert(alloc: Global, cert: &CertData) -> Result<Vec<u8>, CertWriteFault>
     ensures text { IfOk result (λ text. text.items ≡ texts.text by_changes cert.now) }
     ensures within { IfOk result (λ text. length text.items ≤ 67108864) }
-    ensures long { IfErr result (λ fault. fault ≡ TooLong → 67108864 < length (texts.text by_changes cert.now)) }
+    ensures long { IfErr result
+        (λ fault. fault ≡ TooLong → 67108864 < length (texts.text by_changes cert.now)) }
 {
     let mut text = Text::new(alloc, LONGEST_FILE);
     put_text(alloc, &mut text, cert)?;

@@ -30,7 +30,8 @@ fn output_line<K: Over>(
     number: u32,
 ) -> Result<Vec<u8>, NoMemory>
     requires { number < length rows.now.outputs.matrices }
-    ensures { IfOk result (λ line. line.items ≡ lines.pairs_line (pairs_of (set_at rows.now.outputs number))) }
+    ensures { IfOk result
+        (λ line. line.items ≡ lines.pairs_line (pairs_of (set_at rows.now.outputs number))) }
 {
     let pairs = rows.output(alloc, number)?;
     pairs_line(alloc, &pairs)
@@ -86,7 +87,8 @@ fn ranked_tree<K: Over>(
     requires place { place < length rows.old.trees }
     requires ranks { length ranks.now ≡ length rows.old.outputs.matrices }
     ensures same { rows.new ≡ rows.old }
-    ensures line { IfOk result (λ l. (x : Triple) → K.is_of x → l ≡ tree_ranked x rows.old ranks.now place) }
+    ensures line { IfOk result
+        (λ l. (x : Triple) → K.is_of x → l ≡ tree_ranked x rows.old ranks.now place) }
 {
     let line = rows.tree_line(alloc, place)?;
     let outs = ranked(alloc, ranks, &line.outs)?;
@@ -109,7 +111,8 @@ fn ranked_hedge<K: Over>(
     requires place { place < length rows.old.hedges }
     requires ranks { length ranks.now ≡ length rows.old.outputs.matrices }
     ensures same { rows.new ≡ rows.old }
-    ensures line { IfOk result (λ l. (x : Triple) → K.is_of x → l ≡ hedge_ranked x rows.old ranks.now place) }
+    ensures line { IfOk result
+        (λ l. (x : Triple) → K.is_of x → l ≡ hedge_ranked x rows.old ranks.now place) }
 {
     let line = rows.hedge_line(alloc, place)?;
     let outs = ranked(alloc, ranks, &line.outs)?;
@@ -132,7 +135,8 @@ fn tree_bytes<K: Over>(
     requires place { place < length rows.old.trees }
     requires ranks { length ranks.now ≡ length rows.old.outputs.matrices }
     ensures same { rows.new ≡ rows.old }
-    ensures line { IfOk result (λ line. (x : Triple) → K.is_of x → line.items ≡ lines.tree_line (tree_ranked x rows.old ranks.now place)) }
+    ensures line { IfOk result (λ line. (x : Triple) → K.is_of x → line.items
+        ≡ lines.tree_line (tree_ranked x rows.old ranks.now place)) }
 {
     let line = ranked_tree(alloc, rows, ranks, place)?;
     tree_line(alloc, &line)
@@ -148,7 +152,8 @@ fn hedge_bytes<K: Over>(
     requires place { place < length rows.old.hedges }
     requires ranks { length ranks.now ≡ length rows.old.outputs.matrices }
     ensures same { rows.new ≡ rows.old }
-    ensures line { IfOk result (λ line. (x : Triple) → K.is_of x → line.items ≡ lines.hedge_line (hedge_ranked x rows.old ranks.now place)) }
+    ensures line { IfOk result (λ line. (x : Triple) → K.is_of x → line.items
+        ≡ lines.hedge_line (hedge_ranked x rows.old ranks.now place)) }
 {
     let line = ranked_hedge(alloc, rows, ranks, place)?;
     hedge_line(alloc, &line)
@@ -162,7 +167,8 @@ fn tree_order<K: Over>(
 ) -> Result<Vec<u32>, NoMemory>
     requires { length ranks.now ≡ length rows.old.outputs.matrices }
     ensures same { rows.new ≡ rows.old }
-    ensures order { IfOk result (λ numbers. (x : Triple) → K.is_of x → IsOrder (held.tree_lines x rows.old ranks.now) numbers.items) }
+    ensures order { IfOk result (λ numbers. (x : Triple) → K.is_of x
+        → IsOrder (held.tree_lines x rows.old ranks.now) numbers.items) }
     ensures within { IfOk result (λ numbers. All (λ n. n < length rows.old.trees) numbers.items) }
     ensures few { IfOk result (λ numbers. length numbers.items ≤ 4294967295) }
 {
@@ -182,7 +188,8 @@ fn hedge_order<K: Over>(
 ) -> Result<Vec<u32>, NoMemory>
     requires { length ranks.now ≡ length rows.old.outputs.matrices }
     ensures same { rows.new ≡ rows.old }
-    ensures order { IfOk result (λ numbers. (x : Triple) → K.is_of x → IsOrder (held.hedge_lines x rows.old ranks.now) numbers.items) }
+    ensures order { IfOk result (λ numbers. (x : Triple) → K.is_of x
+        → IsOrder (held.hedge_lines x rows.old ranks.now) numbers.items) }
     ensures within { IfOk result (λ numbers. All (λ n. n < length rows.old.hedges) numbers.items) }
     ensures few { IfOk result (λ numbers. length numbers.items ≤ 4294967295) }
 {
@@ -205,7 +212,8 @@ fn trees_at<K: Over>(
     requires within { All (λ n. n < length rows.old.trees) numbers.now }
     requires few { length numbers.now ≤ 4294967295 }
     ensures same { rows.new ≡ rows.old }
-    ensures trees { IfOk result (λ trees. (x : Triple) → K.is_of x → trees ≡ map (tree_ranked x rows.old ranks.now) numbers.now) }
+    ensures trees { IfOk result (λ trees. (x : Triple) → K.is_of x → trees
+        ≡ map (tree_ranked x rows.old ranks.now) numbers.now) }
 {
     let mut trees = TreeLines::new(alloc);
     for place in 0..numbers.len() {
@@ -226,7 +234,8 @@ fn hedges_at<K: Over>(
     requires within { All (λ n. n < length rows.old.hedges) numbers.now }
     requires few { length numbers.now ≤ 4294967295 }
     ensures same { rows.new ≡ rows.old }
-    ensures hedges { IfOk result (λ hedges. (x : Triple) → K.is_of x → hedges ≡ map (hedge_ranked x rows.old ranks.now) numbers.now) }
+    ensures hedges { IfOk result (λ hedges. (x : Triple) → K.is_of x → hedges
+        ≡ map (hedge_ranked x rows.old ranks.now) numbers.now) }
 {
     let mut hedges = HedgeLines::new(alloc);
     for place in 0..numbers.len() {
@@ -244,7 +253,8 @@ fn trees_in_order<K: Over>(
 ) -> Result<TreeLines, NoMemory>
     requires { length ranks.now ≡ length rows.old.outputs.matrices }
     ensures same { rows.new ≡ rows.old }
-    ensures trees { IfOk result (λ trees. (x : Triple) → K.is_of x → AreTreesInOrder x rows.old ranks.now trees) }
+    ensures trees { IfOk result
+        (λ trees. (x : Triple) → K.is_of x → AreTreesInOrder x rows.old ranks.now trees) }
 {
     let numbers = tree_order(alloc, rows, ranks)?;
     trees_at(alloc, rows, ranks, &numbers)
@@ -258,7 +268,8 @@ fn hedges_in_order<K: Over>(
 ) -> Result<HedgeLines, NoMemory>
     requires { length ranks.now ≡ length rows.old.outputs.matrices }
     ensures same { rows.new ≡ rows.old }
-    ensures hedges { IfOk result (λ hedges. (x : Triple) → K.is_of x → AreHedgesInOrder x rows.old ranks.now hedges) }
+    ensures hedges { IfOk result
+        (λ hedges. (x : Triple) → K.is_of x → AreHedgesInOrder x rows.old ranks.now hedges) }
 {
     let numbers = hedge_order(alloc, rows, ranks)?;
     hedges_at(alloc, rows, ranks, &numbers)
@@ -297,7 +308,8 @@ pub(crate) fn cert_data<K: Over>(
     requires trees { length rows.old.trees ≤ 4000 }
     requires hedges { length rows.old.hedges ≤ 4000 }
     ensures same { rows.new ≡ rows.old }
-    ensures data { IfOk result (λ o. (x : Triple) → K.is_of x → MatchOption o (IsTooLong x) (IsLeastCertificate x)) }
+    ensures data { IfOk result
+        (λ o. (x : Triple) → K.is_of x → MatchOption o (IsTooLong x) (IsLeastCertificate x)) }
 {
     let _outputs = rows.output_count();
     let _shape = rows.shape();

@@ -145,7 +145,8 @@ pub(crate) fn settle<K: Over>(
     requires trees { once.old.trees ≡ [] }
     requires most { most ≤ 4000 }
     ensures closure { IfOk result (λ closed. IsClosure (held_of K.is_of once.new) closed) }
-    ensures few { IfOk result (λ closed. ((held_of K.is_of once.new).trees ≤ most) × ((held_of K.is_of once.new).hedges ≤ most)) }
+    ensures few { IfOk result (λ closed. ((held_of K.is_of once.new).trees ≤ most)
+        × ((held_of K.is_of once.new).hedges ≤ most)) }
     ensures cause { IfErr result (λ e. (x : Triple) → K.is_of x → IsCloseCause x most e) }
 {
     match close(alloc, once, most) {
@@ -206,8 +207,10 @@ pub fn decide<'b>(
 ) -> Result<Decision<'b>, CloseFault>
     requires machine { IsMachine machine.now }
     requires most { most ≤ 4000 }
-    ensures decision { IfOk result (λ d. (x : Triple) → IsMachineOf x machine.now → IsDecided x most d) }
-    ensures cause { IfErr result (λ e. (x : Triple) → IsMachineOf x machine.now → IsCloseCause x most e) }
+    ensures decision { IfOk result
+        (λ d. (x : Triple) → IsMachineOf x machine.now → IsDecided x most d) }
+    ensures cause { IfErr result
+        (λ e. (x : Triple) → IsMachineOf x machine.now → IsCloseCause x most e) }
 {
     decide_over::<Brand>(arena, alloc, machine, most)
 }

@@ -95,7 +95,8 @@ impl<'m, 'b, K: Over> HeldRows<'m, 'b, K> {
     /// How long the parts of rows are.
     pub(crate) fn shape(&self) -> Shape
         ensures stands { (x : Triple) → K.is_of x → IsShapeOf x result }
-        ensures fits { (result.inputs < 4294967296) × (result.outputs < 4294967296) × (result.patterns < 4294967296) }
+        ensures fits { (result.inputs < 4294967296) × (result.outputs < 4294967296)
+            × (result.patterns < 4294967296) }
     {
         self.rows.machine().shape()
     }
@@ -126,7 +127,8 @@ impl<'m, 'b, K: Over> HeldRows<'m, 'b, K> {
     pub(crate) fn tree_line(&mut self, alloc: Global, place: u32) -> Result<TreeLine, NoMemory>
         requires { place < length self.old.trees }
         ensures same { self.new ≡ self.old }
-        ensures line { IfOk result (λ l. (x : Triple) → K.is_of x → l ≡ tree_held x self.old place) }
+        ensures line { IfOk result
+            (λ l. (x : Triple) → K.is_of x → l ≡ tree_held x self.old place) }
         ensures outs { IfOk result (λ l. All (λ n. n < length self.old.outputs.matrices) l.outs) }
     {
         let _shape = self.shape();
@@ -138,7 +140,8 @@ impl<'m, 'b, K: Over> HeldRows<'m, 'b, K> {
     pub(crate) fn hedge_line(&mut self, alloc: Global, place: u32) -> Result<HedgeLine, NoMemory>
         requires { place < length self.old.hedges }
         ensures same { self.new ≡ self.old }
-        ensures line { IfOk result (λ l. (x : Triple) → K.is_of x → l ≡ hedge_held x self.old place) }
+        ensures line { IfOk result
+            (λ l. (x : Triple) → K.is_of x → l ≡ hedge_held x self.old place) }
         ensures outs { IfOk result (λ l. All (λ n. n < length self.old.outputs.matrices) l.outs) }
     {
         let _shape = self.shape();

@@ -68,7 +68,8 @@ impl Alike {
         requires fit { AreFit lists.now self.old }
         ensures fit { AreFit lists.now self.new }
         ensures flags { self.new.flags ≡ self.old.flags }
-        ensures more { (u : ℕ) → u < length self.old.of.items → (u < length self.new.of.items) × (get_or self.new.of.items u 0 ≡ get_or self.old.of.items u 0) }
+        ensures more { (u : ℕ) → u < length self.old.of.items → (u < length self.new.of.items)
+            × (get_or self.new.of.items u 0 ≡ get_or self.old.of.items u 0) }
     {
         for next in self.of.len()..place as usize + 1 {
             let first = self.first_like(lists, next as u32);
@@ -85,7 +86,8 @@ impl Alike {
         ensures fit { AreFit lists.now self.new }
         ensures flags { self.new.flags ≡ self.old.flags }
         ensures like { IfSome result (λ k. IsLike self.new.flags lists.now k place) }
-        ensures known { IfSome result (λ k. (place < length self.new.of.items) × (k ≡ get_or self.new.of.items place 0)) }
+        ensures known { IfSome result
+            (λ k. (place < length self.new.of.items) × (k ≡ get_or self.new.of.items place 0)) }
     {
         self.learn(lists, place).ok()?;
         self.of.get(place as usize).copied()

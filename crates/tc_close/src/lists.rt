@@ -59,7 +59,8 @@ impl Lists {
 
     /// The place of a list, if it is held.
     fn find(&self, numbers: &[u32]) -> Option<u32>
-        ensures { MatchOption result (¬ Contains self.now numbers.now) (λ k. slice_get self.now k ≡ Some numbers.now) }
+        ensures { MatchOption result (¬ Contains self.now numbers.now)
+            (λ k. slice_get self.now k ≡ Some numbers.now) }
     {
         match self.keys.get_index_of(numbers) {
             Some(place) => Some(place as u32),
@@ -74,7 +75,8 @@ impl Lists {
     /// There is no memory, or no number for one more. What is held stays as it was.
     pub(crate) fn keep(&mut self, numbers: &[u32]) -> Result<u32, NoMemory>
         ensures place { IfOk result (λ k. slice_get self.new k ≡ Some numbers.now) }
-        ensures grows { IfOk result (λ k. (self.new ≡ self.old) ⊎ ((k ≡ length self.old) × (self.new ≡ self.old ++ numbers.now ∷ []))) }
+        ensures grows { IfOk result (λ k. (self.new ≡ self.old)
+            ⊎ ((k ≡ length self.old) × (self.new ≡ self.old ++ numbers.now ∷ []))) }
         ensures err { OnErr result (self.new ≡ self.old) }
     {
         if let Some(place) = self.find(numbers) {

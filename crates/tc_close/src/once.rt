@@ -65,7 +65,8 @@ impl<'m, 'b, K: Over> OnceRows<'m, 'b, K> {
         requires symbol { symbol < self.old.symbols }
         requires hedge { hedge < length self.old.hedges }
         ensures same { self.new ≡ self.old }
-        ensures told { MatchOption result (Unit {0}) (λ made. IsWrapTold (held_of K.is_of self.old) symbol hedge made) }
+        ensures told { MatchOption result (Unit {0})
+            (λ made. IsWrapTold (held_of K.is_of self.old) symbol hedge made) }
     {
         let first = self.alike.first(symbol);
         let Some(made) = self.wraps.known(first, hedge) else {
@@ -96,8 +97,14 @@ impl<'m, 'b, K: Over> OnceRows<'m, 'b, K> {
         requires room { length self.old.trees < 4294967295 }
         ensures grows { Grows (held_of K.is_of self.old) (held_of K.is_of self.new) }
         ensures hedges { length self.new.hedges ≡ length self.old.hedges }
-        ensures made { IfOk result (λ o. MatchOption o ((held_of K.is_of self.new).no_wrap symbol hedge × IsUnchanged (held_of K.is_of self.old) (held_of K.is_of self.new)) (λ u. IsWrapAt (held_of K.is_of self.new) symbol hedge u × IsHeldAs (length self.old.trees) (length self.new.trees) u)) }
-        ensures fault { OnErr result (IsUnchanged (held_of K.is_of self.old) (held_of K.is_of self.new)) }
+        ensures made { IfOk result
+            (λ o. MatchOption o
+            ((held_of K.is_of self.new).no_wrap symbol hedge
+            × IsUnchanged (held_of K.is_of self.old) (held_of K.is_of self.new))
+            (λ u. IsWrapAt (held_of K.is_of self.new) symbol hedge u
+            × IsHeldAs (length self.old.trees) (length self.new.trees) u)) }
+        ensures fault { OnErr result
+            (IsUnchanged (held_of K.is_of self.old) (held_of K.is_of self.new)) }
         ensures full { IfErr result (λ e. e ≡ HoldFault.Full → IsFull K.is_of self.new) }
     {
         self.rows.wrap(symbol, hedge)

@@ -49,7 +49,8 @@ impl PairTable {
 
     /// Remembers a pair.
     pub(crate) fn put(&mut self, first: u32, second: u32)
-        ensures { (i j : ℕ) → HasPair self.new.places.items i j → HasPair self.old.places.items i j ⊎ ((i ≡ first) × (j ≡ second)) }
+        ensures { (i j : ℕ) → HasPair self.new.places.items i j → HasPair self.old.places.items i j
+            ⊎ ((i ≡ first) × (j ≡ second)) }
     {
         self.places[place_of(first, second)] = Some((first, second));
     }

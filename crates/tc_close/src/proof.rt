@@ -44,7 +44,8 @@ fn certified<'b, K: Over>(
     requires trees { (held_of K.is_of rows.old).trees ≤ 4000 }
     requires hedges { (held_of K.is_of rows.old).hedges ≤ 4000 }
     ensures same { rows.new ≡ rows.old }
-    ensures data { IfOk result (λ o. (x : Triple) → K.is_of x → MatchOption o (IsTooLong x) (IsLeastCertificate x)) }
+    ensures data { IfOk result
+        (λ o. (x : Triple) → K.is_of x → MatchOption o (IsTooLong x) (IsLeastCertificate x)) }
 {
     if !rows.is_whole() {
         return Err(NoMemory);
@@ -134,8 +135,10 @@ pub fn prove<'b>(
 ) -> Result<Proof<'b>, CloseFault>
     requires machine { IsMachine machine.now }
     requires most { most ≤ 4000 }
-    ensures proof { IfOk result (λ p. (x : Triple) → IsMachineOf x machine.now → IsProved x most p) }
-    ensures cause { IfErr result (λ e. (x : Triple) → IsMachineOf x machine.now → IsCloseCause x most e) }
+    ensures proof { IfOk result
+        (λ p. (x : Triple) → IsMachineOf x machine.now → IsProved x most p) }
+    ensures cause { IfErr result
+        (λ e. (x : Triple) → IsMachineOf x machine.now → IsCloseCause x most e) }
 {
     prove_over::<Brand>(arena, alloc, machine, most)
 }

@@ -21,7 +21,8 @@ pub(crate) struct Rooms {
 /// Room for the row of a list of trees, and for that of a tree.
 fn pair(alloc: Global, machine: &Machine<'_>) -> Result<(HRow, TRow), NoMemory>
     requires { IsMachine machine.now }
-    ensures { IfOk result (λ r. (x : Triple) → IsMachineOf x machine.now → IsRoomOf (hedge_layout x) r.0.room × IsRoomOf (tree_layout x) r.1.room) }
+    ensures { IfOk result (λ r. (x : Triple) → IsMachineOf x machine.now
+        → IsRoomOf (hedge_layout x) r.0.room × IsRoomOf (tree_layout x) r.1.room) }
 {
     let hedge = HRow::room(alloc, machine)?;
     let tree = TRow::room(alloc, machine)?;

@@ -41,7 +41,8 @@ impl Wraps {
     /// What came of an element of a symbol around a list of trees is known from now on, if the symbols before are known too
     /// and there is memory for it, and what came of elements around other lists no longer.
     pub(crate) fn learn(&mut self, symbol: u32, hedge: u32, made: Option<u32>)
-        ensures { (h a : ℕ) (o : Option ℕ) → IsKnown self.new h a o → IsKnown self.old h a o ⊎ ((h ≡ hedge) × (a ≡ symbol) × (o ≡ made)) }
+        ensures { (h a : ℕ) (o : Option ℕ) → IsKnown self.new h a o → IsKnown self.old h a o
+            ⊎ ((h ≡ hedge) × (a ≡ symbol) × (o ≡ made)) }
     {
         if hedge != self.hedge {
             self.hedge = hedge;

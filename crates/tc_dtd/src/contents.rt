@@ -61,7 +61,8 @@ fn suffixed<'b, 't>(
     inner: Particle<'b>,
     text: &'t str,
 ) -> Result<(Particle<'b>, &'t str), NoMemory>
-    ensures { IfOk result (λ r. form.SuffixAt (see.particle inner.entry) text.now (see.particle r.0) r.1.now) }
+    ensures { IfOk result
+        (λ r. form.SuffixAt (see.particle inner.entry) text.now (see.particle r.0) r.1.now) }
 {
     if let Some(rest) = after_byte(text, b'?') {
         let inner: &'b Particle<'b> = arena.try_alloc(inner)?;
@@ -87,7 +88,8 @@ fn particle<'b, 't>(
     deepest: u32,
     text: &'t str,
 ) -> Result<(Particle<'b>, &'t str), Stop>
-    ensures ok { IfOk result (λ r. form.ParticleAt deepest text.now (read (see.particle r.0) r.1.now)) }
+    ensures ok { IfOk result
+        (λ r. form.ParticleAt deepest text.now (read (see.particle r.0) r.1.now)) }
     ensures no { IfErr result (λ e. Stops e (form.ParticleAt deepest text.now)) }
 {
     if begins(text, "(") {
@@ -108,7 +110,8 @@ fn group<'b, 't>(
     deepest: u32,
     text: &'t str,
 ) -> Result<(Particle<'b>, &'t str), Stop>
-    ensures ok { IfOk result (λ r. form.GroupAt deepest text.now (read (see.particle r.0) r.1.now)) }
+    ensures ok { IfOk result
+        (λ r. form.GroupAt deepest text.now (read (see.particle r.0) r.1.now)) }
     ensures no { IfErr result (λ e. Stops e (form.GroupAt deepest text.now)) }
 {
     let Some(inside) = after_byte(text, b'(') else {
@@ -167,7 +170,10 @@ fn join<'b, 't>(
     requires above { 0x29 < connector }
     requires ascii { connector < 128 }
     requires alone { all.old.items ≡ first ∷ [] }
-    ensures ok { IfOk result (λ r. (ps : t.Particles) × (see.particles all.new.items ≡ t.more (see.particle first.entry) ps) × form.RestAt connector deepest text.now (read ps r.now)) }
+    ensures ok { IfOk result
+        (λ r. (ps : t.Particles)
+        × (see.particles all.new.items ≡ t.more (see.particle first.entry) ps)
+        × form.RestAt connector deepest text.now (read ps r.now)) }
     ensures no { IfErr result (λ e. Stops e (form.RestAt connector deepest text.now)) }
 {
     let mut rest = text;
@@ -233,8 +239,10 @@ fn mixed<'b, 't>(arena: &'b Bump, text: &'t str) -> Result<(Content<'b>, &'t str
 
 /// What follows the parenthesis and `#PCDATA` with which mixed content begins.
 fn after_pcdata(text: &str) -> Option<&str>
-    ensures { MatchOption result ((r rest : List ℕ) → text.now ≡ 0x28 ∷ r → past_white r ≡ codes "#PCDATA" ++ rest → ⊥)
-        (λ rest. (r : List ℕ) × (text.now ≡ 0x28 ∷ r) × (past_white r ≡ codes "#PCDATA" ++ rest.now)) }
+    ensures { MatchOption result
+        ((r rest : List ℕ) → text.now ≡ 0x28 ∷ r → past_white r ≡ codes "#PCDATA" ++ rest → ⊥)
+        (λ rest. (r : List ℕ) × (text.now ≡ 0x28 ∷ r)
+        × (past_white r ≡ codes "#PCDATA" ++ rest.now)) }
 {
     let inside = after_byte(text, b'(')?;
     after_mark(after_white(inside), "#PCDATA")
@@ -248,7 +256,8 @@ pub(crate) fn content<'b, 't>(
     text: &'t str,
 ) -> Result<(Content<'b>, &'t str), Stop>
     requires { 0 < deepest }
-    ensures ok { IfOk result (λ r. form.ContentAt deepest text.now (read (see.content r.0) r.1.now)) }
+    ensures ok { IfOk result
+        (λ r. form.ContentAt deepest text.now (read (see.content r.0) r.1.now)) }
     ensures no { IfErr result (λ e. Stops e (form.ContentAt deepest text.now)) }
 {
     if let Some(rest) = after_mark(text, "EMPTY") {

@@ -19,7 +19,8 @@ fn add_link<'b>(
     name: &'b str,
     row: &mut Vec<usize, &'b Bump>,
 ) -> Result<(), NoMemory>
-    ensures { OnOk result (row.new.items ≡ row.old.items ++ filter_map (number_in (see.names found.now.keys)) (name.now ∷ [])) }
+    ensures { OnOk result (row.new.items ≡ row.old.items
+        ++ filter_map (number_in (see.names found.now.keys)) (name.now ∷ [])) }
 {
     if let Some(number) = number_of(found, name) {
         row.push(number)?;
@@ -33,7 +34,8 @@ fn add_names<'b>(
     names: &[&'b str],
     row: &mut Vec<usize, &'b Bump>,
 ) -> Result<(), NoMemory>
-    ensures { OnOk result (row.new.items ≡ row.old.items ++ filter_map (number_in (see.names found.now.keys)) (see.names names.now)) }
+    ensures { OnOk result (row.new.items ≡ row.old.items
+        ++ filter_map (number_in (see.names found.now.keys)) (see.names names.now)) }
 {
     for name in names {
         add_link(found, name, row)?;
@@ -49,7 +51,10 @@ fn add_links<'b>(
     particle: &Particle<'b>,
     row: &mut Vec<usize, &'b Bump>,
 ) -> Result<(), NoMemory>
-    ensures { OnOk result (row.new.items ≡ row.old.items ++ filter_map (number_in (see.names found.now.keys)) (t.names_in (see.particle particle.now))) }
+    ensures { OnOk result
+        (row.new.items ≡ row.old.items
+        ++ filter_map (number_in (see.names found.now.keys))
+        (t.names_in (see.particle particle.now))) }
 {
     match particle {
         Particle::Name(name) => add_link(found, name, row),
@@ -64,7 +69,10 @@ fn add_all_links<'b>(
     particles: &[Particle<'b>],
     row: &mut Vec<usize, &'b Bump>,
 ) -> Result<(), NoMemory>
-    ensures { OnOk result (row.new.items ≡ row.old.items ++ filter_map (number_in (see.names found.now.keys)) (t.names_in_all (see.particles particles.now))) }
+    ensures { OnOk result
+        (row.new.items ≡ row.old.items
+        ++ filter_map (number_in (see.names found.now.keys))
+        (t.names_in_all (see.particles particles.now))) }
 {
     for particle in particles {
         add_links(found, particle, row)?;
@@ -80,7 +88,8 @@ fn row<'b>(
     count: usize,
 ) -> Result<&'b [usize], NoMemory>
     requires { count ≡ length (see.names found.now.keys) }
-    ensures { IfOk result (λ r. r.now ≡ row_of (see.names found.now.keys) (see.content content.now)) }
+    ensures { IfOk result
+        (λ r. r.now ≡ row_of (see.names found.now.keys) (see.content content.now)) }
 {
     let mut out = Vec::new(arena);
     match content {
@@ -130,7 +139,8 @@ fn put_kept<'b>(
     decl: &Decl<'b>,
     is_kept: bool,
 ) -> Result<(), NoMemory>
-    ensures { OnOk result (map see.declaration out.new.items ≡ map see.declaration out.old.items ++ (if is_kept then see.declaration decl.now ∷ [] else [])) }
+    ensures { OnOk result (map see.declaration out.new.items ≡ map see.declaration out.old.items
+        ++ (if is_kept then see.declaration decl.now ∷ [] else [])) }
 {
     if is_kept {
         out.push(*decl)?;
@@ -145,7 +155,8 @@ pub(crate) fn marked<'b>(
     marks: &[bool],
 ) -> Result<&'b [Decl<'b>], NoMemory>
     requires { length decls.now ≤ length marks.now }
-    ensures { IfOk result (λ v. map see.declaration v.now ≡ marked_from 0 marks.now (map see.declaration decls.now)) }
+    ensures { IfOk result
+        (λ v. map see.declaration v.now ≡ marked_from 0 marks.now (map see.declaration decls.now)) }
 {
     let mut out = Vec::new(arena);
     for (number, decl) in decls.iter().enumerate() {

@@ -42,7 +42,9 @@ fn after_end(text: &str) -> Result<&str, Stop>
 
 /// The declaration of an element from behind its word on, and what follows it (XML 1.0, 3.2, [45]).
 fn element<'b, 't>(arena: &'b Bump, text: &'t str) -> Result<(Decl<'b>, &'t str), Stop>
-    ensures ok { IfOk result (λ r. form.ElementAt whole.deepest_parenthesis text.now (read (see.declaration r.0) r.1.now)) }
+    ensures ok { IfOk result
+        (λ r. form.ElementAt whole.deepest_parenthesis text.now
+        (read (see.declaration r.0) r.1.now)) }
     ensures no { IfErr result (λ e. Stops e (form.ElementAt whole.deepest_parenthesis text.now)) }
 {
     let start = after_space(text)?;
@@ -61,8 +63,12 @@ fn after_markup<'b, 't>(
     found: &mut Vec<Placed<'b>, &'b Bump>,
 ) -> Result<&'t str, Stop>
     requires { total ≤ 67108864 }
-    ensures ok { IfOk result (λ r. (xs : List form.Placed) × (map placed found.new.items ≡ map placed found.old.items ++ xs) × form.MarkupAt whole.deepest_parenthesis total text.now (read xs r.now)) }
-    ensures no { IfErr result (λ e. Stops e (form.MarkupAt whole.deepest_parenthesis total text.now)) }
+    ensures ok { IfOk result
+        (λ r. (xs : List form.Placed)
+        × (map placed found.new.items ≡ map placed found.old.items ++ xs)
+        × form.MarkupAt whole.deepest_parenthesis total text.now (read xs r.now)) }
+    ensures no { IfErr result
+        (λ e. Stops e (form.MarkupAt whole.deepest_parenthesis total text.now)) }
 {
     if let Some(rest) = after_mark(text, "<!ELEMENT") {
         let (declaration, after) = element(arena, rest)?;
@@ -88,8 +94,11 @@ fn put_markup<'b>(
 ) -> Result<(), Stop>
     requires low { total ≤ 67108864 }
     requires none { found.old.items ≡ [] }
-    ensures ok { OnOk result (form.DeclarationsAt whole.deepest_parenthesis total text.now (read (map placed found.new.items) [])) }
-    ensures no { IfErr result (λ e. Stops e (form.DeclarationsAt whole.deepest_parenthesis total text.now)) }
+    ensures ok { OnOk result
+        (form.DeclarationsAt whole.deepest_parenthesis total text.now
+        (read (map placed found.new.items) [])) }
+    ensures no { IfErr result
+        (λ e. Stops e (form.DeclarationsAt whole.deepest_parenthesis total text.now)) }
 {
     let mut rest = text;
     while !rest.is_empty() {
@@ -112,7 +121,8 @@ fn past_mark(text: &str) -> &str
 /// All declarations of elements of a text (XML 1.0, 2.8).
 pub(crate) fn all_placed<'b>(arena: &'b Bump, text: &str) -> Result<Vec<Placed<'b>, &'b Bump>, Stop>
     requires { length text.now ≤ 67108864 }
-    ensures ok { IfOk result (λ v. whole.TextAt whole.deepest_parenthesis text.now (read (map placed v.items) [])) }
+    ensures ok { IfOk result
+        (λ v. whole.TextAt whole.deepest_parenthesis text.now (read (map placed v.items) [])) }
     ensures no { IfErr result (λ e. Stops e (whole.TextAt whole.deepest_parenthesis text.now)) }
 {
     let start = past_mark(text);

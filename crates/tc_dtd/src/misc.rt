@@ -12,7 +12,8 @@ use tc_scan::{
 
 /// What follows the comment at the front (XML 1.0, 2.5).
 fn after_comment(text: &str) -> Option<&str>
-    ensures { MatchOption result ((after : List ℕ) → xml.CommentAt text.now after → ⊥) (λ r. xml.CommentAt text.now r.now) }
+    ensures { MatchOption result ((after : List ℕ) → xml.CommentAt text.now after → ⊥)
+        (λ r. xml.CommentAt text.now r.now) }
 {
     let inside = after_mark(text, "<!--")?;
     let (_, behind) = up_to(inside, "--")?;
@@ -21,7 +22,8 @@ fn after_comment(text: &str) -> Option<&str>
 
 /// What follows the processing instruction at the front (XML 1.0, 2.6).
 fn after_instruction(text: &str) -> Option<&str>
-    ensures { MatchOption result ((after : List ℕ) → xml.InstructionAt text.now after → ⊥) (λ r. xml.InstructionAt text.now r.now) }
+    ensures { MatchOption result ((after : List ℕ) → xml.InstructionAt text.now after → ⊥)
+        (λ r. xml.InstructionAt text.now r.now) }
 {
     let start = after_mark(text, "<?")?;
     let (target, behind) = ncname(start)?;
@@ -38,7 +40,8 @@ fn after_instruction(text: &str) -> Option<&str>
 
 /// Whether nothing stands in an instruction, or white space after its target.
 fn is_apart(inside: &str, behind: &str) -> bool
-    ensures { MatchBool result ((inside.now ≡ []) ⊎ bytes.BeginsWithWhite behind.now) ((inside.now ≡ []) ⊎ bytes.BeginsWithWhite behind.now → ⊥) }
+    ensures { MatchBool result ((inside.now ≡ []) ⊎ bytes.BeginsWithWhite behind.now)
+        ((inside.now ≡ []) ⊎ bytes.BeginsWithWhite behind.now → ⊥) }
 {
     if inside.is_empty() {
         return true;
@@ -51,8 +54,12 @@ fn is_apart(inside: &str, behind: &str) -> bool
 
 /// What follows the comment or processing instruction at the front, if there is one.
 fn after_one_misc(start: &str) -> Result<Option<&str>, Stop>
-    ensures ok { IfOk result (λ o. MatchOption o (xml.IsNoMisc start.now) (λ after. xml.CommentAt start.now after.now ⊎ xml.InstructionAt start.now after.now)) }
-    ensures no { IfErr result (λ e. Breaks e ((text after : List ℕ) → bytes.after_white text ≡ start.now → xml.MiscAt text after → ⊥)) }
+    ensures ok { IfOk result
+        (λ o. MatchOption o (xml.IsNoMisc start.now)
+        (λ after. xml.CommentAt start.now after.now ⊎ xml.InstructionAt start.now after.now)) }
+    ensures no { IfErr result
+        (λ e. Breaks e
+        ((text after : List ℕ) → bytes.after_white text ≡ start.now → xml.MiscAt text after → ⊥)) }
 {
     if begins(start, "<!--") {
         return match after_comment(start) {
@@ -83,7 +90,8 @@ pub(crate) fn after_misc(text: &str) -> Result<&str, Stop>
 
 /// The literal in quotes at the front, and what follows it (XML 1.0, 2.3).
 fn literal(text: &str) -> Option<(&str, &str)>
-    ensures { MatchOption result ((v after : List ℕ) → bytes.LiteralAt text.now v after → ⊥) (λ r. bytes.LiteralAt text.now r.0.now r.1.now) }
+    ensures { MatchOption result ((v after : List ℕ) → bytes.LiteralAt text.now v after → ⊥)
+        (λ r. bytes.LiteralAt text.now r.0.now r.1.now) }
 {
     if let Some(inside) = after_byte(text, b'"') {
         return up_to(inside, "\"");
@@ -93,7 +101,8 @@ fn literal(text: &str) -> Option<(&str, &str)>
 
 /// The literal that this word is set to, after white space, and what follows it.
 pub(crate) fn setting<'t>(text: &'t str, word: &str) -> Option<(&'t str, &'t str)>
-    ensures { MatchOption result ((v after : List ℕ) → xml.SettingAt word.now text.now v after → ⊥) (λ r. xml.SettingAt word.now text.now r.0.now r.1.now) }
+    ensures { MatchOption result ((v after : List ℕ) → xml.SettingAt word.now text.now v after → ⊥)
+        (λ r. xml.SettingAt word.now text.now r.0.now r.1.now) }
 {
     let start = after_some_white(text)?;
     let behind = after_mark(start, word)?;

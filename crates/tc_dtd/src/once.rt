@@ -18,7 +18,9 @@ pub(crate) fn first_again<'b>(
     arena: &'b Bump,
     found: &[Placed<'b>],
 ) -> Result<Option<Place>, NoMemory>
-    ensures { IfOk result (λ o. MatchOption o (IsDistinct bytes_eq (names_of (map placed found.now))) (λ p. FirstAgain (map placed found.now) p.0)) }
+    ensures { IfOk result
+        (λ o. MatchOption o (IsDistinct bytes_eq (names_of (map placed found.now)))
+        (λ p. FirstAgain (map placed found.now) p.0)) }
 {
     let mut seen: Names<'b> = IndexSet::new(arena);
     first_again_among(&mut seen, found)
@@ -30,7 +32,9 @@ fn first_again_among<'b>(
     found: &[Placed<'b>],
 ) -> Result<Option<Place>, NoMemory>
     requires { seen.old.keys ≡ [] }
-    ensures { IfOk result (λ o. MatchOption o (IsDistinct bytes_eq (names_of (map placed found.now))) (λ p. FirstAgain (map placed found.now) p.0)) }
+    ensures { IfOk result
+        (λ o. MatchOption o (IsDistinct bytes_eq (names_of (map placed found.now)))
+        (λ p. FirstAgain (map placed found.now) p.0)) }
 {
     for one in found {
         let is_new = seen.insert(one.declaration.name)?;
@@ -46,7 +50,8 @@ pub(crate) fn without_places<'b>(
     arena: &'b Bump,
     found: &[Placed<'b>],
 ) -> Result<&'b [Decl<'b>], NoMemory>
-    ensures { IfOk result (λ out. map declaration out.now ≡ map (λ x. x.declaration) (map placed found.now)) }
+    ensures { IfOk result
+        (λ out. map declaration out.now ≡ map (λ x. x.declaration) (map placed found.now)) }
 {
     let mut out = Vec::new(arena);
     for one in found {

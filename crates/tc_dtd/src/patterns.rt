@@ -27,7 +27,8 @@ pub(crate) fn reference<'b>(found: &Names<'b>, name: &'b str) -> Pat<'b>
 
 /// Two patterns side by side.
 fn two<'b>(arena: &'b Bump, first: Pat<'b>, second: Pat<'b>) -> Result<&'b [Pat<'b>], NoMemory>
-    ensures { IfOk result (λ ps. seen.patterns ps.now ≡ both (seen.pattern first.entry) (seen.pattern second.entry)) }
+    ensures { IfOk result
+        (λ ps. seen.patterns ps.now ≡ both (seen.pattern first.entry) (seen.pattern second.entry)) }
 {
     let ps: &'b [Pat<'b>] = arena.try_alloc_slice_copy(&[first, second])?;
     Ok(ps)
@@ -45,7 +46,8 @@ fn repeated<'b>(arena: &'b Bump, pattern: Pat<'b>) -> Result<Pat<'b>, NoMemory>
 /// This pattern or nothing.
 #[tactic(auto, using(tc_model::proofs::ViewsGrammar::see_pattern))]
 fn or_nothing<'b>(arena: &'b Bump, pattern: Pat<'b>) -> Result<Pat<'b>, NoMemory>
-    ensures { IfOk result (λ p. seen.pattern p ≡ g.choice (both (seen.pattern pattern.entry) g.empty)) }
+    ensures { IfOk result
+        (λ p. seen.pattern p ≡ g.choice (both (seen.pattern pattern.entry) g.empty)) }
 {
     let ps = two(arena, pattern, Pat::Empty)?;
     Ok(Pat::Choice(ps))
@@ -60,7 +62,8 @@ fn particle_pattern<'b>(
     particle: &Particle<'b>,
 ) -> Result<Pat<'b>, NoMemory>
     requires { length (see.names found.now.keys) < 2 ^ 31 }
-    ensures { IfOk result (λ p. seen.pattern p ≡ built.particle_pattern (see.names found.now.keys) (see.particle particle.now)) }
+    ensures { IfOk result (λ p. seen.pattern p
+        ≡ built.particle_pattern (see.names found.now.keys) (see.particle particle.now)) }
 {
     match particle {
         Particle::Name(name) => Ok(reference(found, name)),
@@ -89,7 +92,8 @@ fn particle_patterns<'b>(
     particles: &[Particle<'b>],
 ) -> Result<&'b [Pat<'b>], NoMemory>
     requires { length (see.names found.now.keys) < 2 ^ 31 }
-    ensures { IfOk result (λ ps. seen.patterns ps.now ≡ built.particle_patterns (see.names found.now.keys) (see.particles particles.now)) }
+    ensures { IfOk result (λ ps. seen.patterns ps.now
+        ≡ built.particle_patterns (see.names found.now.keys) (see.particles particles.now)) }
 {
     let mut out = Vec::new(arena);
     for one in particles {
@@ -106,7 +110,8 @@ fn text_and_references<'b>(
     names: &[&'b str],
 ) -> Result<&'b [Pat<'b>], NoMemory>
     requires { length (see.names found.now.keys) < 2 ^ 31 }
-    ensures { IfOk result (λ ps. seen.patterns ps.now ≡ g.more g.text (built.references (see.names found.now.keys) (see.names names.now))) }
+    ensures { IfOk result (λ ps. seen.patterns ps.now
+        ≡ g.more g.text (built.references (see.names found.now.keys) (see.names names.now))) }
 {
     let mut out = Vec::from_slice(arena, &[Pat::Text])?;
     for name in names {
@@ -123,7 +128,8 @@ fn with_texts<'b>(
     names: &[&'b str],
 ) -> Result<Pat<'b>, NoMemory>
     requires { length (see.names found.now.keys) < 2 ^ 31 }
-    ensures { IfOk result (λ p. seen.pattern p ≡ built.with_texts (built.references (see.names found.now.keys) (see.names names.now))) }
+    ensures { IfOk result (λ p. seen.pattern p
+        ≡ built.with_texts (built.references (see.names found.now.keys) (see.names names.now))) }
 {
     let ps = text_and_references(arena, found, names)?;
     let p = repeated(arena, Pat::Choice(ps))?;
@@ -140,7 +146,8 @@ fn content_pattern<'b>(
 ) -> Result<Pat<'b>, NoMemory>
     requires few { length (see.names found.now.keys) < 2 ^ 31 }
     requires same { see.names reached.now ≡ see.names found.now.keys }
-    ensures { IfOk result (λ p. seen.pattern p ≡ built.content_pattern (see.names found.now.keys) (see.content content.now)) }
+    ensures { IfOk result (λ p. seen.pattern p
+        ≡ built.content_pattern (see.names found.now.keys) (see.content content.now)) }
 {
     match content {
         Content::Nothing => Ok(Pat::Empty),
@@ -165,7 +172,8 @@ pub(crate) fn element_patterns<'b>(
 ) -> Result<&'b [ElemPat<'b>], NoMemory>
     requires few { length (see.names found.now.keys) < 2 ^ 31 }
     requires same { see.names reached.now ≡ see.names found.now.keys }
-    ensures { IfOk result (λ es. map seen.element_pattern es.now ≡ map (built.element_pattern (see.names found.now.keys)) (map see.declaration decls.now)) }
+    ensures { IfOk result (λ es. map seen.element_pattern es.now
+        ≡ map (built.element_pattern (see.names found.now.keys)) (map see.declaration decls.now)) }
 {
     let mut out = Vec::new(arena);
     for decl in decls {

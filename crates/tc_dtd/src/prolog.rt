@@ -51,14 +51,17 @@ fn after_encoding(text: &str) -> Result<&str, Stop>
 
 /// Whether texts in this encoding are read.
 fn is_read_encoding(value: &str) -> bool
-    ensures { result ≡ (str_eq_ignore_ascii_case value.now (codes "UTF-8") || str_eq_ignore_ascii_case value.now (codes "US-ASCII")) }
+    ensures { result
+        ≡ (str_eq_ignore_ascii_case value.now (codes "UTF-8")
+        || str_eq_ignore_ascii_case value.now (codes "US-ASCII")) }
 {
     value.eq_ignore_ascii_case("UTF-8") || value.eq_ignore_ascii_case("US-ASCII")
 }
 
 /// Whether this is `yes` or `no`.
 fn is_yes_or_no(value: &str) -> bool
-    ensures { MatchBool result ((value.now ≡ codes "yes") ⊎ (value.now ≡ codes "no")) ((value.now ≡ codes "yes") ⊎ (value.now ≡ codes "no") → ⊥) }
+    ensures { MatchBool result ((value.now ≡ codes "yes") ⊎ (value.now ≡ codes "no"))
+        ((value.now ≡ codes "yes") ⊎ (value.now ≡ codes "no") → ⊥) }
 {
     matches!(value, "yes" | "no")
 }
@@ -66,7 +69,8 @@ fn is_yes_or_no(value: &str) -> bool
 /// What follows a standalone declaration, if there is one (XML 1.0, 2.9).
 fn after_standalone(text: &str) -> Result<&str, Stop>
     ensures ok { IfOk result (λ r. xml.StandaloneAt text.now r.now) }
-    ensures no { IfErr result (λ e. Breaks e ((after : List ℕ) → xml.StandaloneAt text.now after → ⊥)) }
+    ensures no { IfErr result
+        (λ e. Breaks e ((after : List ℕ) → xml.StandaloneAt text.now after → ⊥)) }
 {
     let start = after_white(text);
     if !begins(start, "standalone") {

@@ -54,7 +54,9 @@ fn kept_by<'b>(
 ) -> Result<&'b [Decl<'b>], OutOfMemory>
     requires declarations { AreDeclarations (map see.declaration decls.now) }
     requires found { see.names found.now.keys ≡ map (λ x. x.name) (map see.declaration decls.now) }
-    ensures { IfOk result (λ v. Keeps (map see.declaration decls.now) root.now (map see.declaration decls.now) (map see.declaration v.now)) }
+    ensures { IfOk result
+        (λ v. Keeps (map see.declaration decls.now) root.now (map see.declaration decls.now)
+        (map see.declaration v.now)) }
 {
     let Some(number) = number_of(found, root) else {
         return Ok(&[]);
@@ -72,7 +74,9 @@ fn kept<'b>(
     root: &'b str,
 ) -> Result<&'b [Decl<'b>], OutOfMemory>
     requires { AreDeclarations (map see.declaration decls.now) }
-    ensures { IfOk result (λ v. Keeps (map see.declaration decls.now) root.now (map see.declaration decls.now) (map see.declaration v.now)) }
+    ensures { IfOk result
+        (λ v. Keeps (map see.declaration decls.now) root.now (map see.declaration decls.now)
+        (map see.declaration v.now)) }
 {
     let found = names_of(arena, decls)?;
     kept_by(arena, decls, &found, root)
@@ -98,7 +102,8 @@ fn check_limits(decls: &[Decl<'_>]) -> Result<(), DtdGrammarFault>
 
 /// The names of declarations.
 fn local_names<'b>(arena: &'b Bump, decls: &[Decl<'b>]) -> Result<&'b [&'b str], OutOfMemory>
-    ensures { IfOk result (λ v. see.names v.now ≡ map (λ x. x.name) (map see.declaration decls.now)) }
+    ensures { IfOk result
+        (λ v. see.names v.now ≡ map (λ x. x.name) (map see.declaration decls.now)) }
 {
     let mut out: Vec<&'b str, &'b Bump> = Vec::new(arena);
     for decl in decls {
@@ -116,7 +121,8 @@ fn built_by<'b>(
 ) -> Result<Grammar<'b>, OutOfMemory>
     requires few { length decls.now ≤ 256 }
     requires found { see.names found.now.keys ≡ map (λ x. x.name) (map see.declaration decls.now) }
-    ensures { IfOk result (λ g. seen.grammar g ≡ grammar_with (map see.declaration decls.now) root.now) }
+    ensures { IfOk result
+        (λ g. seen.grammar g ≡ grammar_with (map see.declaration decls.now) root.now) }
 {
     let names = local_names(arena, decls)?;
     let elements = element_patterns(arena, found, names, decls)?;
@@ -128,7 +134,8 @@ fn built_by<'b>(
 fn built<'b>(arena: &'b Bump, decls: &[Decl<'b>], root: &'b str) -> Result<Grammar<'b>, OutOfMemory>
     requires once { AreApart (map (λ x. x.name) (map see.declaration decls.now)) }
     requires few { length decls.now ≤ 256 }
-    ensures { IfOk result (λ g. seen.grammar g ≡ grammar_with (map see.declaration decls.now) root.now) }
+    ensures { IfOk result
+        (λ g. seen.grammar g ≡ grammar_with (map see.declaration decls.now) root.now) }
 {
     let found = names_of(arena, decls)?;
     built_by(arena, decls, &found, root)
@@ -146,11 +153,13 @@ pub fn grammar<'b>(
     root: &str,
 ) -> Result<Grammar<'b>, DtdGrammarFault>
     requires { AreDeclarations (see.declarations dtd.now) }
-    ensures grammar { IfOk result (λ g. IsGrammarOfDtd (see.declarations dtd.now) root.now (seen.grammar g)) }
+    ensures grammar { IfOk result
+        (λ g. IsGrammarOfDtd (see.declarations dtd.now) root.now (seen.grammar g)) }
     ensures within { IfOk result (λ g. IsWithinCounts (seen.grammar g)) }
     ensures lawful { IfOk result (λ g. IsGrammar (seen.grammar g)) }
     ensures start { IfOk result (λ g. IsStart (seen.pattern g.start)) }
-    ensures valid { IfOk result (λ g. AllowsTheSame (see.declarations dtd.now) root.now (seen.grammar g)) }
+    ensures valid { IfOk result
+        (λ g. AllowsTheSame (see.declarations dtd.now) root.now (seen.grammar g)) }
     ensures err { IfErr result (Refuses (see.declarations dtd.now) root.now) }
 {
     let root = copied(arena, root)?;

@@ -42,8 +42,10 @@ fn literal_len(text: &str, references: bool, quote: u8) -> usize
 
 /// The first `>`, `%` or quote, and what follows it.
 fn past_skipped(text: &str) -> Option<(u8, &str)>
-    ensures { MatchOption result ((b : ℕ) (r : List ℕ) → form.passed form.is_skipped text.now ≡ b ∷ r → ⊥)
-        (λ found. (form.passed form.is_skipped text.now ≡ found.0 ∷ found.1.now) × ((found.0 ≡ 0x3E) ⊎ ((found.0 ≡ 0x25) ⊎ IsQuote found.0))) }
+    ensures { MatchOption result
+        ((b : ℕ) (r : List ℕ) → form.passed form.is_skipped text.now ≡ b ∷ r → ⊥)
+        (λ found. (form.passed form.is_skipped text.now ≡ found.0 ∷ found.1.now)
+        × ((found.0 ≡ 0x3E) ⊎ ((found.0 ≡ 0x25) ⊎ IsQuote found.0))) }
 {
     let count = skipped_len(text);
     if count == text.len() {
@@ -55,8 +57,10 @@ fn past_skipped(text: &str) -> Option<(u8, &str)>
 /// The first such quote, or `%` where references are recognised, and what follows it.
 fn past_literal(text: &str, references: bool, quote: u8) -> Option<(u8, &str)>
     requires { IsQuote quote }
-    ensures { MatchOption result ((b : ℕ) (r : List ℕ) → form.passed (form.is_within references quote) text.now ≡ b ∷ r → ⊥)
-        (λ found. (form.passed (form.is_within references quote) text.now ≡ found.0 ∷ found.1.now) × ((found.0 ≡ quote) ⊎ (found.0 ≡ 0x25))) }
+    ensures { MatchOption result
+        ((b : ℕ) (r : List ℕ) → form.passed (form.is_within references quote) text.now ≡ b ∷ r → ⊥)
+        (λ found. (form.passed (form.is_within references quote) text.now ≡ found.0 ∷ found.1.now)
+        × ((found.0 ≡ quote) ⊎ (found.0 ≡ 0x25))) }
 {
     let count = literal_len(text, references, quote);
     if count == text.len() {

@@ -88,7 +88,8 @@ impl<'b> Walk<'b> {
         requires last { (front : List Start) × (self.old.starts.items ≡ front ++ start ∷ []) }
         ensures walk { OnOk result (IsWalk (rows_of rows.now) (seen self.new)) }
         ensures old { OnOk result (KeepsOld (seen self.old) (seen self.new)) }
-        ensures less { OnOk result (cost (rows_of rows.now) (seen self.new) < cost (rows_of rows.now) (seen self.old)) }
+        ensures less { OnOk result
+            (cost (rows_of rows.now) (seen self.new) < cost (rows_of rows.now) (seen self.old)) }
     {
         if self.steps.len() == start.step {
             return self.close(start);
@@ -145,7 +146,8 @@ impl<'b> Walk<'b> {
     pub fn joins(&self, first: usize, second: usize) -> bool
         requires first { first < length self.now.states.items }
         requires second { second < length self.now.states.items }
-        ensures { result ≡ same_component (state_at self.now.states.items first) (state_at self.now.states.items second) }
+        ensures { result ≡ same_component (state_at self.now.states.items first)
+            (state_at self.now.states.items second) }
     {
         match (self.states[first], self.states[second]) {
             (State::Done(one), State::Done(other)) => one == other,

@@ -14,7 +14,8 @@ fn mark(
     pending: &mut Vec<usize, &Bump>,
 ) -> Result<(), NoMemory>
     requires { All (λ j. j < length marks.old.items) row.now }
-    ensures { OnOk result (Marks row.now marks.old.items marks.new.items pending.old.items pending.new.items) }
+    ensures { OnOk result
+        (Marks row.now marks.old.items marks.new.items pending.old.items pending.new.items) }
 {
     for to in row {
         if !marks[*to] {

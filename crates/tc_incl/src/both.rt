@@ -43,7 +43,8 @@ impl<'c, 'b> Both<'c, 'b> {
         second: &'c Auto<'b>,
         alphabet: &Alphabet,
     ) -> Result<Both<'c, 'b>, NoMemory>
-        ensures told { IfOk result (λ r. (x : Schemas) → a.Stands s.input x.first first.now → a.Stands s.input x.second second.now → alphabet.now ≡ x.symbols → AreTold r x) }
+        ensures told { IfOk result (λ r. (x : Schemas) → a.Stands s.input x.first first.now
+            → a.Stands s.input x.second second.now → alphabet.now ≡ x.symbols → AreTold r x) }
     {
         let symbols = alphabet.count();
         let first = Side::of(alloc, first, alphabet)?;
@@ -82,7 +83,8 @@ impl<'c, 'b> Both<'c, 'b> {
 
     /// The row of a text, where texts are live.
     pub(crate) fn text(&self) -> Result<Option<Row>, NoMemory>
-        ensures made { IfOk result (λ o. MatchOption o (NoText self.now) (λ u. IsTreeFit self.now u × IsText self.now u)) }
+        ensures made { IfOk result
+            (λ o. MatchOption o (NoText self.now) (λ u. IsTreeFit self.now u × IsText self.now u)) }
     {
         if !self.first.has_text() {
             return Ok(None);
@@ -116,7 +118,9 @@ impl<'c, 'b> Both<'c, 'b> {
         requires hedge { IsHedgeFit self.now hedge.now }
         requires steps { AreBothSteps self.now hedge.now steps.now }
         requires tree { IsTreeFit self.now tree.now }
-        ensures made { IfOk result (λ o. MatchOption o (NoAppended self.now hedge.now tree.now) (λ u. IsHedgeFit self.now u × IsAppended self.now hedge.now tree.now u)) }
+        ensures made { IfOk result
+            (λ o. MatchOption o (NoAppended self.now hedge.now tree.now)
+            (λ u. IsHedgeFit self.now u × IsAppended self.now hedge.now tree.now u)) }
     {
         if hedge.text && tree.text {
             return Ok(None);
@@ -137,8 +141,10 @@ impl<'c, 'b> Both<'c, 'b> {
     pub(crate) fn wrapped(&self, symbol: u32, steps: &BothSteps) -> Result<Option<Row>, NoMemory>
         requires symbol { symbol < self.now.symbols }
         requires steps { (h : Row) × AreBothSteps self.now h steps.now }
-        ensures made { IfOk result (λ o. (h : Row) → IsHedgeFit self.now h → AreBothSteps self.now h steps.now
-            → MatchOption o (NoWrapped self.now symbol h) (λ u. IsTreeFit self.now u × IsWrapped self.now symbol h u)) }
+        ensures made { IfOk result
+            (λ o. (h : Row) → IsHedgeFit self.now h → AreBothSteps self.now h steps.now
+            → MatchOption o (NoWrapped self.now symbol h)
+            (λ u. IsTreeFit self.now u × IsWrapped self.now symbol h u)) }
     {
         let first = self.first.matching_patterns(symbol, &steps.first)?;
         if first.is_empty() {

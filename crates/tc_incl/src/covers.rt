@@ -122,7 +122,8 @@ impl<'c, 'g, K: Over> Covers<'c, 'g, K> {
     /// Whether the row of a tree is that of a document that is valid for the first schema and not for the second.
     pub(crate) fn fails(&self, tree: u32) -> bool
         requires { tree < length self.now.trees }
-        ensures { MatchBool result ((held_of K.is_of self.now).fails tree) ((held_of K.is_of self.now).passes tree) }
+        ensures { MatchBool result ((held_of K.is_of self.now).fails tree)
+            ((held_of K.is_of self.now).passes tree) }
     {
         self.both.is_failing(&self.trees.as_slice()[tree as usize])
     }
@@ -130,7 +131,8 @@ impl<'c, 'g, K: Over> Covers<'c, 'g, K> {
     /// What came of an element of a symbol, or of another one of its kind, around a list of trees, if it is known.
     fn known_wrap(&self, symbol: u32, hedge: u32) -> Option<Option<u32>>
         requires { symbol < self.now.symbols }
-        ensures { MatchOption result (Unit {0}) (λ made. IsWrapTold (held_of K.is_of self.now) symbol hedge made) }
+        ensures { MatchOption result (Unit {0})
+            (λ made. IsWrapTold (held_of K.is_of self.now) symbol hedge made) }
     {
         let kind = self.both.kind(symbol);
         self.wraps.known(kind, hedge)
@@ -158,8 +160,14 @@ impl<'c, 'g, K: Over> Covers<'c, 'g, K> {
         requires room { length self.old.trees < 4294967295 }
         ensures grows { Grows (held_of K.is_of self.old) (held_of K.is_of self.new) }
         ensures hedges { length self.new.hedges ≡ length self.old.hedges }
-        ensures made { IfOk result (λ o. MatchOption o ((held_of K.is_of self.new).no_wrap symbol hedge × IsUnchanged (held_of K.is_of self.old) (held_of K.is_of self.new)) (λ u. IsWrapAt (held_of K.is_of self.new) symbol hedge u × IsHeldAs (length self.old.trees) (length self.new.trees) u)) }
-        ensures fault { OnErr result (IsUnchanged (held_of K.is_of self.old) (held_of K.is_of self.new)) }
+        ensures made { IfOk result
+            (λ o. MatchOption o
+            ((held_of K.is_of self.new).no_wrap symbol hedge
+            × IsUnchanged (held_of K.is_of self.old) (held_of K.is_of self.new))
+            (λ u. IsWrapAt (held_of K.is_of self.new) symbol hedge u
+            × IsHeldAs (length self.old.trees) (length self.new.trees) u)) }
+        ensures fault { OnErr result
+            (IsUnchanged (held_of K.is_of self.old) (held_of K.is_of self.new)) }
     {
         step_to(&self.both, self.hedges.as_slice(), &mut self.steps, hedge)?;
         let made = self.both.wrapped(symbol, &self.steps[hedge as usize])?;

@@ -65,7 +65,9 @@ fn cause<K: Over>(covers: &Covers<'_, '_, K>, most: u32, fault: CloseFault) -> I
 /// The first row of a tree that fails; none where all pass.
 fn first_failing<K: Over>(covers: &Covers<'_, '_, K>) -> Option<u32>
     requires { (held_of K.is_of covers.now).trees ≤ 4294967295 }
-    ensures { MatchOption result (PassBefore (held_of K.is_of covers.now) (held_of K.is_of covers.now).trees) (λ k. IsFirstFailing (held_of K.is_of covers.now) k) }
+    ensures { MatchOption result
+        (PassBefore (held_of K.is_of covers.now) (held_of K.is_of covers.now).trees)
+        (λ k. IsFirstFailing (held_of K.is_of covers.now) k) }
 {
     for tree in 0..covers.tree_count() {
         if covers.fails(tree) {
@@ -163,8 +165,10 @@ pub fn included<'b>(
 ) -> Result<Cover<'b>, InclFault>
     requires schemas { (x : Schemas) × AreOf first.now second.now alphabet.now x }
     requires most { most < 4294967295 }
-    ensures answer { IfOk result (λ c. (x : Schemas) → AreOf first.now second.now alphabet.now x → IsAnswer x most c) }
-    ensures cause { IfErr result (λ e. (x : Schemas) → AreOf first.now second.now alphabet.now x → IsCause x most e) }
+    ensures answer { IfOk result
+        (λ c. (x : Schemas) → AreOf first.now second.now alphabet.now x → IsAnswer x most c) }
+    ensures cause { IfErr result
+        (λ e. (x : Schemas) → AreOf first.now second.now alphabet.now x → IsCause x most e) }
 {
     included_over::<Brand>(arena, alloc, first, second, alphabet, most)
 }

@@ -19,8 +19,12 @@ fn kind_of(
     requires first { symbol < length first.now.allowed.items }
     requires second { symbol < length second.now.allowed.items }
     requires room { length held.old.keys < 4294967295 }
-    ensures { IfOk result (λ u. (row : Row) × IsCopyAt first.now.allowed.items symbol row.first × IsCopyAt second.now.allowed.items symbol row.second × (slice_get held.new.keys u ≡ Some row)
-        × (((u < length held.old.keys) × (held.new.keys ≡ held.old.keys)) ⊎ ((u ≡ length held.old.keys) × (held.new.keys ≡ held.old.keys ++ row ∷ [])))) }
+    ensures { IfOk result
+        (λ u. (row : Row) × IsCopyAt first.now.allowed.items symbol row.first
+        × IsCopyAt second.now.allowed.items symbol row.second
+        × (slice_get held.new.keys u ≡ Some row)
+        × (((u < length held.old.keys) × (held.new.keys ≡ held.old.keys))
+        ⊎ ((u ≡ length held.old.keys) × (held.new.keys ≡ held.old.keys ++ row ∷ [])))) }
 {
     let of_first = first.allowing(symbol)?;
     let of_second = second.allowing(symbol)?;
@@ -44,7 +48,8 @@ pub(crate) fn kinds_of(
     requires first { length first.now.allowed.items ≡ symbols }
     requires second { length second.now.allowed.items ≡ symbols }
     ensures count { IfOk result (λ r. length r.items ≡ symbols) }
-    ensures kinds { IfOk result (λ r. AreKinds first.now.allowed.items second.now.allowed.items r.items) }
+    ensures kinds { IfOk result
+        (λ r. AreKinds first.now.allowed.items second.now.allowed.items r.items) }
 {
     let mut held = IndexSet::new(alloc);
     let mut kinds = Vec::new(alloc);

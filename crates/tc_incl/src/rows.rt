@@ -23,7 +23,8 @@ pub struct Row {
 pub(crate) fn hold(rows: &mut IndexSet<Row>, row: Row) -> Result<u32, NoMemory>
     requires room { length rows.old.keys < 4294967295 }
     ensures held { IfOk result (λ u. slice_get rows.new.keys u ≡ Some row) }
-    ensures kept { IfOk result (λ u. ((u < length rows.old.keys) × (rows.new.keys ≡ rows.old.keys)) ⊎ ((u ≡ length rows.old.keys) × (rows.new.keys ≡ rows.old.keys ++ row ∷ []))) }
+    ensures kept { IfOk result (λ u. ((u < length rows.old.keys) × (rows.new.keys ≡ rows.old.keys))
+        ⊎ ((u ≡ length rows.old.keys) × (rows.new.keys ≡ rows.old.keys ++ row ∷ []))) }
     ensures different { OnOk result (AreDifferent rows.new.keys) }
     ensures err { OnErr result (rows.new.keys ≡ rows.old.keys) }
 {

@@ -48,7 +48,8 @@ fn allowed_for(
 ) -> Result<Set, NoMemory>
     requires { end ≡ a.patterns automaton.now + 1 }
     ensures size { IfOk result (λ r. r.size ≡ end) }
-    ensures numbers { IfOk result (λ r. (x : g.Grammar) → a.Stands s.input x automaton.now → (k : ℕ) → Has r k ↔ IsAllowed x (see.name name.now) k) }
+    ensures numbers { IfOk result (λ r. (x : g.Grammar) → a.Stands s.input x automaton.now
+        → (k : ℕ) → Has r k ↔ IsAllowed x (see.name name.now) k) }
 {
     let mut allowed = Set::empty(alloc, end)?;
     for before in 0..automaton.patterns() {
@@ -69,7 +70,8 @@ fn allowed_of(
     requires { end ≡ a.patterns automaton.now + 1 }
     ensures count { IfOk result (λ r. length r.items ≡ symbol_count alphabet.now) }
     ensures sizes { IfOk result (λ r. AreOfSize end r.items) }
-    ensures allowed { IfOk result (λ r. (x : g.Grammar) → a.Stands s.input x automaton.now → AreAllowed x alphabet.now r.items) }
+    ensures allowed { IfOk result (λ r. (x : g.Grammar) → a.Stands s.input x automaton.now
+        → AreAllowed x alphabet.now r.items) }
 {
     let arena = Bump::new(alloc);
     let mut allowed = Vec::new(alloc);
@@ -86,7 +88,9 @@ fn put_ends(arrows: &[Arrow], states: &Set, ends: &mut Set)
     requires within { AreWithin states.now.size arrows.now }
     requires size { ends.old.size ≡ states.now.size }
     ensures size { ends.new.size ≡ ends.old.size }
-    ensures numbers { (j : ℕ) → Has ends.new j ↔ (Has ends.old j ⊎ ((i : ℕ) × Has states.now i × Contains arrows.now (record { from = i; to = j }))) }
+    ensures numbers { (j : ℕ) → Has ends.new j
+        ↔ (Has ends.old j
+        ⊎ ((i : ℕ) × Has states.now i × Contains arrows.now (record { from = i; to = j }))) }
 {
     for arrow in arrows {
         if states.has(arrow.from) {
@@ -100,7 +104,8 @@ fn put_after(ends: &[Set], patterns: &Set, next: &mut Set)
     requires count { patterns.now.size ≡ length ends.now + 1 }
     requires sizes { AreOfSize next.old.size ends.now }
     ensures size { next.new.size ≡ next.old.size }
-    ensures numbers { (j : ℕ) → Has next.new j ↔ (Has next.old j ⊎ IsAtSome ends.now patterns.now (length ends.now) j) }
+    ensures numbers { (j : ℕ) → Has next.new j
+        ↔ (Has next.old j ⊎ IsAtSome ends.now patterns.now (length ends.now) j) }
 {
     for before in 0..patterns.size() - 1 {
         if patterns.has(before + 1) {
@@ -115,7 +120,8 @@ fn put_steps(steps: &Steps, is_text: bool, patterns: &Set, next: &mut Set)
     requires sizes { AreOfSize next.old.size steps.now.elements.items }
     requires text { steps.now.text.size ≡ next.old.size }
     ensures size { next.new.size ≡ next.old.size }
-    ensures numbers { (j : ℕ) → Has next.new j ↔ (Has next.old j ⊎ IsLed steps.now is_text patterns.now j) }
+    ensures numbers { (j : ℕ) → Has next.new j
+        ↔ (Has next.old j ⊎ IsLed steps.now is_text patterns.now j) }
 {
     if is_text {
         next.add_all(&steps.text);
@@ -145,7 +151,8 @@ impl<'c, 'b> Side<'c, 'b> {
     ) -> Result<Side<'c, 'b>, NoMemory>
         ensures auto { IfOk result (λ r. r.auto.now ≡ auto.now) }
         ensures count { IfOk result (λ r. length r.allowed.items ≡ symbol_count alphabet.now) }
-        ensures allowed { IfOk result (λ r. (x : g.Grammar) → a.Stands s.input x auto.now → AreAllowed x alphabet.now r.allowed.items) }
+        ensures allowed { IfOk result (λ r. (x : g.Grammar) → a.Stands s.input x auto.now
+            → AreAllowed x alphabet.now r.allowed.items) }
     {
         let end = end_of(auto)?;
         let allowed = allowed_of(alloc, auto, end, alphabet)?;
@@ -161,7 +168,8 @@ impl<'c, 'b> Side<'c, 'b> {
     pub(crate) fn begun(&self) -> Result<Set, NoMemory>
         ensures set { IfOk result (λ r. IsSet r) }
         ensures size { IfOk result (λ r. r.size ≡ a.states self.now.auto.now) }
-        ensures numbers { IfOk result (λ r. (x : g.Grammar) → a.Stands s.input x self.now.auto.now → (j : ℕ) → Has r j ↔ IsBegun x (length x.elements) j) }
+        ensures numbers { IfOk result (λ r. (x : g.Grammar) → a.Stands s.input x self.now.auto.now
+            → (j : ℕ) → Has r j ↔ IsBegun x (length x.elements) j) }
     {
         let mut states = Set::empty(self.alloc, self.auto.states())?;
         for before in 0..self.auto.patterns() {
@@ -173,7 +181,8 @@ impl<'c, 'b> Side<'c, 'b> {
 
     /// Whether `text` is written in some content.
     pub(crate) fn has_text(&self) -> bool
-        ensures { (x : g.Grammar) → a.Stands s.input x self.now.auto.now → result ≡ g.some_content_has_text x.elements }
+        ensures { (x : g.Grammar) → a.Stands s.input x self.now.auto.now → result
+            ≡ g.some_content_has_text x.elements }
     {
         self.auto.has_text()
     }
@@ -193,7 +202,8 @@ impl<'c, 'b> Side<'c, 'b> {
         requires { states.now.size ≡ a.states self.now.auto.now }
         ensures set { IfOk result (λ r. IsSet r) }
         ensures size { IfOk result (λ r. r.size ≡ a.states self.now.auto.now) }
-        ensures numbers { IfOk result (λ r. (x : g.Grammar) → a.Stands s.input x self.now.auto.now → (j : ℕ) → Has r j ↔ IsAfterText x states.now j) }
+        ensures numbers { IfOk result (λ r. (x : g.Grammar) → a.Stands s.input x self.now.auto.now
+            → (j : ℕ) → Has r j ↔ IsAfterText x states.now j) }
     {
         let mut next = Set::empty(self.alloc, self.auto.states())?;
         put_ends(self.auto.text_arrows(), states, &mut next);
@@ -207,7 +217,8 @@ impl<'c, 'b> Side<'c, 'b> {
         requires within { number ≤ a.patterns self.now.auto.now }
         requires size { states.now.size ≡ a.states self.now.auto.now }
         ensures size { IfOk result (λ r. r.size ≡ a.states self.now.auto.now) }
-        ensures numbers { IfOk result (λ r. (x : g.Grammar) → a.Stands s.input x self.now.auto.now → (j : ℕ) → Has r j ↔ IsAfterPattern x states.now number j) }
+        ensures numbers { IfOk result (λ r. (x : g.Grammar) → a.Stands s.input x self.now.auto.now
+            → (j : ℕ) → Has r j ↔ IsAfterPattern x states.now number j) }
     {
         let mut next = Set::empty(self.alloc, self.auto.states())?;
         put_ends(self.auto.arrows(number), states, &mut next);
@@ -219,7 +230,8 @@ impl<'c, 'b> Side<'c, 'b> {
         requires { states.now.size ≡ a.states self.now.auto.now }
         ensures count { IfOk result (λ r. length r.items ≡ a.patterns self.now.auto.now) }
         ensures sizes { IfOk result (λ r. AreOfSize (a.states self.now.auto.now) r.items) }
-        ensures numbers { IfOk result (λ r. (x : g.Grammar) → a.Stands s.input x self.now.auto.now → AreAfterPatterns x states.now r.items) }
+        ensures numbers { IfOk result (λ r. (x : g.Grammar) → a.Stands s.input x self.now.auto.now
+            → AreAfterPatterns x states.now r.items) }
     {
         let mut next = Vec::new(self.alloc);
         for before in 0..self.auto.patterns() {
@@ -234,7 +246,8 @@ impl<'c, 'b> Side<'c, 'b> {
         requires { states.now.size ≡ a.states self.now.auto.now }
         ensures size { IfOk result (λ r. r.size ≡ self.now.end) }
         ensures from_one { IfOk result (λ r. ¬ Has r 0) }
-        ensures numbers { IfOk result (λ r. (x : g.Grammar) → a.Stands s.input x self.now.auto.now → (k : ℕ) → Has r k ↔ IsTaken x states.now k) }
+        ensures numbers { IfOk result (λ r. (x : g.Grammar) → a.Stands s.input x self.now.auto.now
+            → (k : ℕ) → Has r k ↔ IsTaken x states.now k) }
     {
         let mut taken = Set::empty(self.alloc, self.end)?;
         for before in 0..self.auto.patterns() {
@@ -271,7 +284,8 @@ impl<'c, 'b> Side<'c, 'b> {
         requires patterns { patterns.now.size ≡ self.now.end }
         ensures set { IfOk result (λ r. IsSet r) }
         ensures size { IfOk result (λ r. r.size ≡ a.states self.now.auto.now) }
-        ensures numbers { IfOk result (λ r. (x : g.Grammar) (states : Numbers) → a.Stands s.input x self.now.auto.now → AreSteps self.now.auto.now states steps.now
+        ensures numbers { IfOk result (λ r. (x : g.Grammar) (states : Numbers)
+            → a.Stands s.input x self.now.auto.now → AreSteps self.now.auto.now states steps.now
             → (j : ℕ) → Has r j ↔ IsAfter x states is_text patterns.now j) }
     {
         let mut next = Set::empty(self.alloc, self.auto.states())?;
@@ -285,7 +299,8 @@ impl<'c, 'b> Side<'c, 'b> {
         requires from_one { 1 ≤ number }
         requires within { number ≤ a.patterns self.now.auto.now }
         requires size { states.now.size ≡ a.states self.now.auto.now }
-        ensures { (x : g.Grammar) → a.Stands s.input x self.now.auto.now → IsTrue result ↔ IsTaken x states.now number }
+        ensures { (x : g.Grammar) → a.Stands s.input x self.now.auto.now → IsTrue result
+            ↔ IsTaken x states.now number }
     {
         let first = self.auto.first(number);
         let end = self.auto.end(number);
@@ -315,8 +330,11 @@ impl<'c, 'b> Side<'c, 'b> {
         ensures set { IfOk result (λ r. IsSet r) }
         ensures size { IfOk result (λ r. r.size ≡ self.now.end) }
         ensures from_one { IfOk result (λ r. ¬ Has r 0) }
-        ensures numbers { IfOk result (λ r. (x : g.Grammar) (states : Numbers) (symbols : List Mention) → a.Stands s.input x self.now.auto.now → AreSteps self.now.auto.now states steps.now
-            → AreAllowed x symbols self.now.allowed.items → (k : ℕ) → Has r k ↔ (IsAllowed x (fresh_name symbols symbol) k × IsTaken x states k)) }
+        ensures numbers { IfOk result
+            (λ r. (x : g.Grammar) (states : Numbers) (symbols : List Mention)
+            → a.Stands s.input x self.now.auto.now → AreSteps self.now.auto.now states steps.now
+            → AreAllowed x symbols self.now.allowed.items → (k : ℕ) → Has r k
+            ↔ (IsAllowed x (fresh_name symbols symbol) k × IsTaken x states k)) }
     {
         let mut around = self.allowing(symbol)?;
         around.keep_all(&steps.taken);
@@ -327,7 +345,8 @@ impl<'c, 'b> Side<'c, 'b> {
     /// Whether one of the element patterns is an alternative of the start.
     pub(crate) fn starts(&self, patterns: &Set) -> bool
         requires { patterns.now.size ≡ self.now.end }
-        ensures { (x : g.Grammar) → a.Stands s.input x self.now.auto.now → result ≡ is_start x (members patterns.now) }
+        ensures { (x : g.Grammar) → a.Stands s.input x self.now.auto.now → result
+            ≡ is_start x (members patterns.now) }
     {
         for number in 0..patterns.size() {
             if patterns.has(number) && self.auto.starts(number) {

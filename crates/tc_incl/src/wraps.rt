@@ -41,7 +41,8 @@ impl Wraps {
     /// What came of an element of a kind around a list of trees is known from now on, if there is memory for it, and what
     /// came of elements around other lists no longer.
     pub(crate) fn learn(&mut self, kind: u32, hedge: u32, made: Option<u32>)
-        ensures { (h k : ℕ) (o : Option ℕ) → IsKnown self.new h k o → IsKnown self.old h k o ⊎ ((h ≡ hedge) × (k ≡ kind) × (o ≡ made)) }
+        ensures { (h k : ℕ) (o : Option ℕ) → IsKnown self.new h k o → IsKnown self.old h k o
+            ⊎ ((h ≡ hedge) × (k ≡ kind) × (o ≡ made)) }
     {
         if hedge != self.hedge {
             self.hedge = hedge;

@@ -69,7 +69,8 @@ pub trait Store {
             → IsTooLong (files name.now) → IsErrOf result StoreFault.TooLong }
 
         // The count of faults rose wherever the files do not show the cause.
-        ensures failed { IsErrOf result StoreFault.Failed → Rose (faults self.old) (faults self.new) }
+        ensures failed { IsErrOf result StoreFault.Failed
+            → Rose (faults self.old) (faults self.new) }
         ensures untold { holds self.old ≡ None
             → IsErrOf result StoreFault.Missing ⊎ IsErrOf result StoreFault.TooLong
             → Rose (faults self.old) (faults self.new) };

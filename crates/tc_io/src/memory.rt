@@ -70,7 +70,8 @@ impl MemStore {
 
     /// Lets the read of this number fail, the first read being number 1.
     pub fn fail_at(&mut self, call: u64) -> Result<(), NoMemory>
-        ensures ok { OnOk result (self.new ≡ record self.old { failing = self.old.failing ++ call ∷ [] }) }
+        ensures ok { OnOk result
+            (self.new ≡ record self.old { failing = self.old.failing ++ call ∷ [] }) }
         ensures err { OnErr result (self.new ≡ self.old) }
     {
         self.calls.fail_at(call)
@@ -167,7 +168,8 @@ impl Model for MemSink {
 impl MemSink {
     /// An empty sink with room for so many bytes, which are taken at once.
     pub fn new(alloc: Global, room: usize) -> Result<MemSink, NoMemory>
-        ensures { IfOk result (λ sink. sink ≡ record { bytes = []; room = room; calls = 0; failing = []; faults = 0 }) }
+        ensures { IfOk result (λ sink. sink
+            ≡ record { bytes = []; room = room; calls = 0; failing = []; faults = 0 }) }
     {
         let bytes = Vec::with_capacity(alloc, room)?;
         Ok(MemSink {
@@ -180,7 +182,8 @@ impl MemSink {
 
     /// Lets the write of this number fail, the first write being number 1.
     pub fn fail_at(&mut self, call: u64) -> Result<(), NoMemory>
-        ensures ok { OnOk result (self.new ≡ record self.old { failing = self.old.failing ++ call ∷ [] }) }
+        ensures ok { OnOk result
+            (self.new ≡ record self.old { failing = self.old.failing ++ call ∷ [] }) }
         ensures err { OnErr result (self.new ≡ self.old) }
     {
         self.calls.fail_at(call)
@@ -204,7 +207,8 @@ impl Sink for MemSink {
     fn write(&mut self, piece: &[u8]) -> Result<(), WriteFault>
         ensures count { self.old.faults ≤ self.new.faults }
         ensures ok { OnOk result (Appended (Some self.old.bytes) (Some self.new.bytes) piece.now) }
-        ensures fault { OnErr result (WroteFront (Some self.old.bytes) (Some self.new.bytes) piece.now) }
+        ensures fault { OnErr result
+            (WroteFront (Some self.old.bytes) (Some self.new.bytes) piece.now) }
         ensures rose { OnErr result (Rose self.old.faults self.new.faults) }
 
         // More than a sink promises: which writes fail, and what each leaves.

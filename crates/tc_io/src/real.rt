@@ -50,7 +50,8 @@ impl<'r, R: Files> Store for RealStore<'r, R> {
         ensures gives { Counts self.old name.now (came result) self.new }
         ensures count { self.old ≤ self.new }
         ensures bound { IfOk result (λ bytes. length bytes.items ≤ longest_file) }
-        ensures told { (files : Files) → None ≡ Some files → Answers (files name.now) (came result) }
+        ensures told { (files : Files) → None ≡ Some files
+            → Answers (files name.now) (came result) }
         ensures missing { (files : Files) → None ≡ Some files
             → files name.now ≡ None → IsErrOf result StoreFault.Missing }
         ensures too_long { (files : Files) → None ≡ Some files
@@ -81,8 +82,10 @@ fn read_file<R: Files>(rt: &R, alloc: Global, path: &str) -> Result<Vec<u8>, Sto
 /// Reads what is left. A read that was interrupted goes on.
 pub(crate) fn read_to_end<F: Read>(file: &mut F, alloc: Global) -> Result<Vec<u8>, StoreFault>
     ensures bound { IfOk result (λ bytes. length bytes.items ≤ longest_file) }
-    ensures whole { IfOk result (λ bytes. IfSome (F.remaining file.old) (λ left. bytes.items ≡ left)) }
-    ensures too_long { IsErrOf result StoreFault.TooLong → IfSome (F.remaining file.old) (λ left. longest_file < length left) }
+    ensures whole { IfOk result
+        (λ bytes. IfSome (F.remaining file.old) (λ left. bytes.items ≡ left)) }
+    ensures too_long { IsErrOf result StoreFault.TooLong
+        → IfSome (F.remaining file.old) (λ left. longest_file < length left) }
     ensures not_missing { IsErrOf result StoreFault.Missing → ⊥ }
 {
     let mut bytes = Vec::new(alloc);
@@ -138,8 +141,10 @@ impl<W: Write> Sink for RealSink<W> {
         // More than a sink promises: the count itself, and what reaches a writer that tells its bytes.
         ensures same { OnOk result (self.new.faults ≡ self.old.faults) }
         ensures err { OnErr result (self.new.faults ≡ raised self.old.faults) }
-        ensures reaches { OnOk result (Appends (W.contents self.old.out) (W.contents self.new.out) piece.now) }
-        ensures front { OnErr result (AppendsFront (W.contents self.old.out) (W.contents self.new.out) piece.now) }
+        ensures reaches { OnOk result
+            (Appends (W.contents self.old.out) (W.contents self.new.out) piece.now) }
+        ensures front { OnErr result
+            (AppendsFront (W.contents self.old.out) (W.contents self.new.out) piece.now) }
     {
         let written = write_all(&mut self.out, piece);
         if written.is_err() {
@@ -152,7 +157,8 @@ impl<W: Write> Sink for RealSink<W> {
 /// Writes the whole piece. A write that takes nothing of it is a fault, and one that was interrupted goes on.
 fn write_all<W: Write>(out: &mut W, piece: &[u8]) -> Result<(), WriteFault>
     ensures reaches { OnOk result (Appends (W.contents out.old) (W.contents out.new) piece.now) }
-    ensures front { OnErr result (AppendsFront (W.contents out.old) (W.contents out.new) piece.now) }
+    ensures front { OnErr result
+        (AppendsFront (W.contents out.old) (W.contents out.new) piece.now) }
 {
     let mut rest = piece;
     for _ in 0..u64::MAX {

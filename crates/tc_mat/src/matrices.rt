@@ -195,7 +195,8 @@ fn is_bit_set(words: &[u64], word: usize, place: u32) -> bool
 fn set_bit(words: &mut [u64], word: usize, place: u32)
     requires within { word < length words.old }
     requires place { place < 64 }
-    ensures { words.new ≡ slice_set words.old word (bit_or (slice_index words.old word) (2 ^ place)) }
+    ensures { words.new
+        ≡ slice_set words.old word (bit_or (slice_index words.old word) (2 ^ place)) }
 {
     words[word] = words[word] | (1u64 << place);
 }

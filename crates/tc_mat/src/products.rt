@@ -15,7 +15,8 @@ pub(crate) fn multiply(n: u32, a: &[u64], b: &[u64], out: &mut [u64])
     requires room { length out.old ≡ n * words_a_row n }
     requires padded { IsPadded n a.now }
     ensures { HasBits n out.new
-        (λ row word place. (by : ℕ) × (by < words_a_row n) × Leads n a.now b.now by row word place) }
+        (λ row word place. (by : ℕ) × (by < words_a_row n)
+        × Leads n a.now b.now by row word place) }
 {
     if is_identity(n, a) {
         out.copy_from_slice(b);
@@ -76,7 +77,8 @@ fn add_rows(n: u32, told: u64, by: usize, b: &[u64], out: &mut [u64], row: usize
     requires by { by < words_a_row n }
     requires told { (t : ℕ) → bit_at told t ≡ 1 → (t < 64) × (64 * by + t < n) }
     requires row { row < n }
-    ensures { GainsBits n out.old out.new (λ x word place. (x ≡ row) × Told n b.now told by word place) }
+    ensures { GainsBits n out.old out.new
+        (λ x word place. (x ≡ row) × Told n b.now told by word place) }
 {
     let mut rest = told;
     while rest != 0 {

@@ -100,7 +100,8 @@ fn gather_text<'b>(gathered: &mut Gathered<'b>, text: &'b str) -> Result<(), NoM
 
 /// Ends the run, whose text is dropped where it is white space alone.
 fn end_run(gathered: &mut Gathered<'_>) -> Result<(), NoMemory>
-    ensures nodes { OnOk result (trees gathered.new.nodes.items ≡ beside (trees gathered.old.nodes.items) (kept (run_text gathered.old.run) none)) }
+    ensures nodes { OnOk result (trees gathered.new.nodes.items
+        ≡ beside (trees gathered.old.nodes.items) (kept (run_text gathered.old.run) none)) }
     ensures run { OnOk result (run_text gathered.new.run ≡ []) }
 {
     let text = text_of(mem::replace(&mut gathered.run, Run::Nothing));
@@ -117,7 +118,10 @@ fn gather_element<'b>(
     name: &Name<'b>,
     kids: &'b [Node<'b>],
 ) -> Result<(), NoMemory>
-    ensures nodes { OnOk result (trees gathered.new.nodes.items ≡ beside (beside (trees gathered.old.nodes.items) (kept (run_text gathered.old.run) none)) (element (see.name name.now) (trees kids.now) none)) }
+    ensures nodes { OnOk result
+        (trees gathered.new.nodes.items
+        ≡ beside (beside (trees gathered.old.nodes.items) (kept (run_text gathered.old.run) none))
+        (element (see.name name.now) (trees kids.now) none)) }
     ensures run { OnOk result (run_text gathered.new.run ≡ []) }
 {
     end_run(gathered)?;
@@ -128,7 +132,8 @@ fn gather_element<'b>(
 /// All trees.
 #[inline(never)]
 fn all_gathered<'b>(mut gathered: Gathered<'b>) -> Result<&'b [Node<'b>], NoMemory>
-    ensures { IfOk result (λ out. trees out.now ≡ beside (trees gathered.entry.nodes.items) (kept (run_text gathered.entry.run) none)) }
+    ensures { IfOk result (λ out. trees out.now
+        ≡ beside (trees gathered.entry.nodes.items) (kept (run_text gathered.entry.run) none)) }
 {
     end_run(&mut gathered)?;
     Ok(into_bump_slice(gathered.nodes))
@@ -200,7 +205,9 @@ fn change_of<'b>(arena: &'b Bump, node: &Node<'b>, behind: bool) -> Result<Chang
 /// What is known of a level where its normal form changes something, by the first tree at which it does.
 #[cycle(normal)]
 fn first_change<'b>(arena: &'b Bump, nodes: &[Node<'b>]) -> Result<Option<Known<'b>>, NoMemory>
-    ensures { IfOk result (λ r. MatchOption r (IsNormal (trees nodes.now)) (λ known. KidsStay known.place (known_kids known.kids) (trees nodes.now))) }
+    ensures { IfOk result
+        (λ r. MatchOption r (IsNormal (trees nodes.now))
+        (λ known. KidsStay known.place (known_kids known.kids) (trees nodes.now))) }
 {
     let mut behind = false;
     for (place, node) in nodes.iter().enumerate() {
@@ -228,7 +235,8 @@ fn kids_at<'b>(
     known: &Known<'b>,
 ) -> Result<&'b [Node<'b>], NoMemory>
     requires before { place < known.now.place → IsNormal (trees kids.now) }
-    requires here { place ≡ known.now.place → (k : t.Trees) → known_kids known.now.kids ≡ Some k → k ≡ normal_form (trees kids.now) }
+    requires here { place ≡ known.now.place → (k : t.Trees) → known_kids known.now.kids ≡ Some k
+        → k ≡ normal_form (trees kids.now) }
     ensures { IfOk result (λ out. trees out.now ≡ normal_form (trees kids.now)) }
 {
     if place < known.place {
@@ -269,7 +277,9 @@ fn normal_from<'b>(
 /// The normal form of trees, or none, only where they are in normal form already.
 #[cycle(normal)]
 fn renewed<'b>(arena: &'b Bump, nodes: &'b [Node<'b>]) -> Result<Option<&'b [Node<'b>]>, NoMemory>
-    ensures { IfOk result (λ r. MatchOption r (IsNormal (trees nodes.now)) (λ out. trees out.now ≡ normal_form (trees nodes.now))) }
+    ensures { IfOk result
+        (λ r. MatchOption r (IsNormal (trees nodes.now))
+        (λ out. trees out.now ≡ normal_form (trees nodes.now))) }
 {
     match first_change(arena, nodes)? {
         Some(known) => {

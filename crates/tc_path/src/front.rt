@@ -31,7 +31,8 @@ pub(crate) fn after_digits(text: &str) -> &str
 
 /// The literal in quotes at the front, and what follows it (XML 1.0, 2.3).
 pub(crate) fn literal(text: &str) -> Option<(&str, &str)>
-    ensures { MatchOption result ((value after : List ℕ) → xml.LiteralAt text.now value after → ⊥) (λ r. xml.LiteralAt text.now r.0.now r.1.now) }
+    ensures { MatchOption result ((value after : List ℕ) → xml.LiteralAt text.now value after → ⊥)
+        (λ r. xml.LiteralAt text.now r.0.now r.1.now) }
 {
     if let Some(inside) = after_byte(text, b'"') {
         return up_to(inside, "\"");

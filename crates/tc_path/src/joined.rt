@@ -62,7 +62,11 @@ pub(crate) fn form_of(several: bool, lone: bool) -> Form
 
 /// Whether the next step is deep, and what follows the `/` or `//` before it.
 pub(crate) fn after_separator<'a, 't>(tokens: &'a [Token<'t>]) -> Option<(bool, &'a [Token<'t>])>
-    ensures { MatchOption result (p.Lacks (path.mark path.slash) (tokens_of tokens.now) × p.Lacks (path.mark path.slashes) (tokens_of tokens.now)) (λ r. (tokens_of tokens.now) ≡ path.mark (if r.0 then path.slashes else path.slash) ∷ tokens_of r.1.now) }
+    ensures { MatchOption result
+        (p.Lacks (path.mark path.slash) (tokens_of tokens.now)
+        × p.Lacks (path.mark path.slashes) (tokens_of tokens.now))
+        (λ r. (tokens_of tokens.now)
+        ≡ path.mark (if r.0 then path.slashes else path.slash) ∷ tokens_of r.1.now) }
 {
     match after_mark(tokens, Mark::Slash) {
         Some(rest) => Some((false, rest)),
@@ -78,7 +82,11 @@ pub(crate) fn after_open_call<'a, 't>(
     tokens: &'a [Token<'t>],
     word: &str,
 ) -> Option<&'a [Token<'t>]>
-    ensures { MatchOption result ((r : List path.Token) → (tokens_of tokens.now) ≡ p.word word.now ∷ path.mark path.open_parenthesis ∷ r → ⊥) (λ rest. (tokens_of tokens.now) ≡ p.word word.now ∷ path.mark path.open_parenthesis ∷ tokens_of rest.now) }
+    ensures { MatchOption result
+        ((r : List path.Token) → (tokens_of tokens.now)
+        ≡ p.word word.now ∷ path.mark path.open_parenthesis ∷ r → ⊥)
+        (λ rest. (tokens_of tokens.now)
+        ≡ p.word word.now ∷ path.mark path.open_parenthesis ∷ tokens_of rest.now) }
 {
     match after_word(tokens, word) {
         Some(rest) => after_mark(rest, Mark::OpenParenthesis),
@@ -109,7 +117,8 @@ pub(crate) fn keep<'b>(
     drops: bool,
     tokens: &[Token<'_>],
 ) -> Result<bool, PathFault>
-    ensures kept { IfOk result (λ _. alternatives.new.items ≡ alternatives.old.items ++ (if p.is_dropped (form written) then [] else steps.entry ∷ [])) }
+    ensures kept { IfOk result (λ _. alternatives.new.items ≡ alternatives.old.items
+        ++ (if p.is_dropped (form written) then [] else steps.entry ∷ [])) }
     ensures drops { IfOk result (λ dropped. dropped ≡ p.is_dropped (form written) || drops) }
     ensures memory { IfErr result (λ e. e ≡ PathFault.NoMemory) }
 {

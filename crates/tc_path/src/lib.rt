@@ -73,10 +73,15 @@ pub fn read_select<'b>(
     text: &str,
     scope: &[Binding<'b>],
 ) -> Result<Path<'b>, PathFault>
-    ensures ok { IfOk result (λ r. texts.SelectText (map seen.bound scope.now) text.now (seen.path r)) }
-    ensures no { IfErr result (λ e. OrNoMemory e ((v : sheets.Path) → texts.SelectText (map seen.bound scope.now) text.now v → ⊥)) }
+    ensures ok { IfOk result
+        (λ r. texts.SelectText (map seen.bound scope.now) text.now (seen.path r)) }
+    ensures no { IfErr result
+        (λ e. OrNoMemory e
+        ((v : sheets.Path) → texts.SelectText (map seen.bound scope.now) text.now v → ⊥)) }
     ensures cause { IfErr result (λ e. IsCause contexts.Select text.now e) }
-    ensures renamed { (v : sheets.Path) → FormsOnceRenamed (texts.IsSelect (map seen.bound scope.now) v) text.now → IfErr result IsUnsupported }
+    ensures renamed { (v : sheets.Path)
+        → FormsOnceRenamed (texts.IsSelect (map seen.bound scope.now) v) text.now
+        → IfErr result IsUnsupported }
 {
     let tokens = shallow_tokens(arena, text)?;
     match whole_select(arena, scope, tokens) {
@@ -92,11 +97,18 @@ pub fn selects_attributes(
     text: &str,
     scope: &[Binding<'_>],
 ) -> Result<bool, PathFault>
-    ensures ok { IfOk result (λ r. MatchBool r (texts.AttributesText (map seen.bound scope.now) text.now) (texts.AttributesText (map seen.bound scope.now) text.now → ⊥)) }
-    ensures select { IfOk result (λ _. (v : sheets.Path) × texts.SelectText (map seen.bound scope.now) text.now v) }
-    ensures no { IfErr result (λ e. OrNoMemory e ((v : sheets.Path) → texts.SelectText (map seen.bound scope.now) text.now v → ⊥)) }
+    ensures ok { IfOk result
+        (λ r. MatchBool r (texts.AttributesText (map seen.bound scope.now) text.now)
+        (texts.AttributesText (map seen.bound scope.now) text.now → ⊥)) }
+    ensures select { IfOk result
+        (λ _. (v : sheets.Path) × texts.SelectText (map seen.bound scope.now) text.now v) }
+    ensures no { IfErr result
+        (λ e. OrNoMemory e
+        ((v : sheets.Path) → texts.SelectText (map seen.bound scope.now) text.now v → ⊥)) }
     ensures cause { IfErr result (λ e. IsCause contexts.Select text.now e) }
-    ensures renamed { (v : sheets.Path) → FormsOnceRenamed (texts.IsSelect (map seen.bound scope.now) v) text.now → IfErr result IsUnsupported }
+    ensures renamed { (v : sheets.Path)
+        → FormsOnceRenamed (texts.IsSelect (map seen.bound scope.now) v) text.now
+        → IfErr result IsUnsupported }
 {
     let tokens = shallow_tokens(arena, text)?;
     match whole_attributes(arena, scope, tokens) {
@@ -111,10 +123,16 @@ pub fn read_value<'b>(
     text: &str,
     scope: &[Binding<'b>],
 ) -> Result<Instr<'b>, PathFault>
-    ensures ok { IfOk result (λ r. texts.ValueText (map seen.bound scope.now) text.now (seen.instruction r sheets.no_instruction)) }
-    ensures no { IfErr result (λ e. OrNoMemory e ((v : sheets.Body) → texts.ValueText (map seen.bound scope.now) text.now v → ⊥)) }
+    ensures ok { IfOk result
+        (λ r. texts.ValueText (map seen.bound scope.now) text.now
+        (seen.instruction r sheets.no_instruction)) }
+    ensures no { IfErr result
+        (λ e. OrNoMemory e
+        ((v : sheets.Body) → texts.ValueText (map seen.bound scope.now) text.now v → ⊥)) }
     ensures cause { IfErr result (λ e. IsCause contexts.Value text.now e) }
-    ensures renamed { (v : sheets.Body) → FormsOnceRenamed (texts.IsValue (map seen.bound scope.now) v) text.now → IfErr result IsUnsupported }
+    ensures renamed { (v : sheets.Body)
+        → FormsOnceRenamed (texts.IsValue (map seen.bound scope.now) v) text.now
+        → IfErr result IsUnsupported }
 {
     let tokens = shallow_tokens(arena, text)?;
     match whole_value(arena, scope, tokens) {
@@ -129,10 +147,15 @@ pub fn read_pattern<'b>(
     text: &str,
     scope: &[Binding<'b>],
 ) -> Result<&'b [Alt<'b>], PathFault>
-    ensures ok { IfOk result (λ r. texts.PatternText (map seen.bound scope.now) text.now (map see.alternative r.now)) }
-    ensures no { IfErr result (λ e. OrNoMemory e ((v : List p.Alternative) → texts.PatternText (map seen.bound scope.now) text.now v → ⊥)) }
+    ensures ok { IfOk result
+        (λ r. texts.PatternText (map seen.bound scope.now) text.now (map see.alternative r.now)) }
+    ensures no { IfErr result
+        (λ e. OrNoMemory e
+        ((v : List p.Alternative) → texts.PatternText (map seen.bound scope.now) text.now v → ⊥)) }
     ensures cause { IfErr result (λ e. IsCause contexts.Pattern text.now e) }
-    ensures renamed { (v : List p.Alternative) → FormsOnceRenamed (texts.IsPattern (map seen.bound scope.now) v) text.now → IfErr result IsUnsupported }
+    ensures renamed { (v : List p.Alternative)
+        → FormsOnceRenamed (texts.IsPattern (map seen.bound scope.now) v) text.now
+        → IfErr result IsUnsupported }
 {
     let tokens = shallow_tokens(arena, text)?;
     match whole_pattern(arena, scope, tokens) {
@@ -147,10 +170,15 @@ pub fn read_test<'b>(
     text: &str,
     scope: &[Binding<'b>],
 ) -> Result<Test<'b>, PathFault>
-    ensures ok { IfOk result (λ r. texts.TestText (map seen.bound scope.now) text.now (seen.test r)) }
-    ensures no { IfErr result (λ e. OrNoMemory e ((v : sheets.Test) → texts.TestText (map seen.bound scope.now) text.now v → ⊥)) }
+    ensures ok { IfOk result
+        (λ r. texts.TestText (map seen.bound scope.now) text.now (seen.test r)) }
+    ensures no { IfErr result
+        (λ e. OrNoMemory e
+        ((v : sheets.Test) → texts.TestText (map seen.bound scope.now) text.now v → ⊥)) }
     ensures cause { IfErr result (λ e. IsCause contexts.Test text.now e) }
-    ensures renamed { (v : sheets.Test) → FormsOnceRenamed (texts.IsTest (map seen.bound scope.now) v) text.now → IfErr result IsUnsupported }
+    ensures renamed { (v : sheets.Test)
+        → FormsOnceRenamed (texts.IsTest (map seen.bound scope.now) v) text.now
+        → IfErr result IsUnsupported }
 {
     let tokens = shallow_tokens(arena, text)?;
     match whole_test(arena, scope, tokens) {

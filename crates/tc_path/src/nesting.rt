@@ -25,7 +25,8 @@ fn open_behind(before: usize, next: &Token<'_>) -> usize
 
 /// Whether parentheses and brackets together stand too deep within one another.
 fn is_too_deep(tokens: &[Token<'_>]) -> bool
-    ensures { MatchBool result (path.IsTooDeep (tokens_of tokens.now)) (path.IsTooDeep (tokens_of tokens.now) → ⊥) }
+    ensures { MatchBool result (path.IsTooDeep (tokens_of tokens.now))
+        (path.IsTooDeep (tokens_of tokens.now) → ⊥) }
 {
     let mut count = 0;
     for token in tokens {

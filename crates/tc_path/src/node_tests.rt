@@ -38,7 +38,8 @@ pub(crate) fn after_call<'a, 't>(tokens: &'a [Token<'t>], word: &str) -> Option<
         ((r : List path.Token) → (tokens_of tokens.now)
         ≡ p.word word.now ∷ path.mark path.open_parenthesis ∷ path.mark path.close_parenthesis ∷ r
         → ⊥) (λ rest. (tokens_of tokens.now)
-        ≡ p.word word.now ∷ path.mark path.open_parenthesis ∷ path.mark path.close_parenthesis ∷ tokens_of rest.now) }
+        ≡ p.word word.now ∷ path.mark path.open_parenthesis ∷ path.mark path.close_parenthesis ∷
+        tokens_of rest.now) }
 {
     match after_open_call(tokens, word) {
         Some(inside) => after_mark(inside, Mark::CloseParenthesis),
@@ -75,9 +76,13 @@ fn name_test<'a, 'b, 't>(
     tokens: &'a [Token<'t>],
 ) -> Result<(NodeTest<'b>, &'a [Token<'t>]), PathFault>
     requires no_text { (r : List path.Token) → (tokens_of tokens.now)
-        ≡ p.word (codes "text") ∷ path.mark path.open_parenthesis ∷ path.mark path.close_parenthesis ∷ r → ⊥ }
+        ≡ p.word
+        (codes "text") ∷ path.mark path.open_parenthesis ∷ path.mark path.close_parenthesis ∷ r
+        → ⊥ }
     requires no_node { (r : List path.Token) → (tokens_of tokens.now)
-        ≡ p.word (codes "node") ∷ path.mark path.open_parenthesis ∷ path.mark path.close_parenthesis ∷ r → ⊥ }
+        ≡ p.word
+        (codes "node") ∷ path.mark path.open_parenthesis ∷ path.mark path.close_parenthesis ∷ r
+        → ⊥ }
     ensures { MatchResult result
         (λ r. p.NodeTestAt (in_scope scope.now) (tokens_of tokens.now) (seen.node_test r.0)
         (tokens_of r.1.now) × (length r.1.now < length tokens.now))

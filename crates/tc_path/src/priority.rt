@@ -65,7 +65,8 @@ fn fraction_of(digits: &str) -> u64
 
 /// Digits and a fraction up to the end, in ten-thousandths.
 fn unsigned(text: &str) -> Option<u64>
-    ensures read { MatchOption result ((v : ℕ) → texts.Unsigned text.now v → ⊥) (texts.Unsigned text.now) }
+    ensures read { MatchOption result ((v : ℕ) → texts.Unsigned text.now v → ⊥)
+        (texts.Unsigned text.now) }
     ensures below { IfSome result (λ v. v < 10000000000) }
 {
     let (whole, behind) = digits(text);
@@ -89,7 +90,8 @@ fn unsigned(text: &str) -> Option<u64>
 /// Reads the priority of a template in ten-thousandths: at most six digits, with a fraction of at most four
 /// (XSLT 1.0, 5.5; XPath 1.0, 3.7, Number). None where the text is not of this form.
 pub fn read_priority(text: &str) -> Option<i64>
-    ensures { MatchOption result ((x : ℤ) → texts.PriorityText text.now x → ⊥) (texts.PriorityText text.now) }
+    ensures { MatchOption result ((x : ℤ) → texts.PriorityText text.now x → ⊥)
+        (texts.PriorityText text.now) }
 {
     let start = after_white(text);
     match after_byte(start, b'-') {

@@ -38,7 +38,9 @@ pub(crate) fn is_word(name: &QualifiedName<'_>, word: &str) -> bool
 
 /// Whether a name is one of these two words, without a prefix.
 fn is_either(name: &QualifiedName<'_>, word: &str, other: &str) -> bool
-    ensures { result ≡ (reasons.is_word (written_name name.now) word.now || reasons.is_word (written_name name.now) other.now) }
+    ensures { result
+        ≡ (reasons.is_word (written_name name.now) word.now
+        || reasons.is_word (written_name name.now) other.now) }
 {
     is_word(name, word) || is_word(name, other)
 }
@@ -144,7 +146,8 @@ fn name_reason(
     name: &QualifiedName<'_>,
     tokens: &[Token<'_>],
 ) -> Option<Why>
-    ensures { result ≡ reasons.name_reason context before (written_name name.now) (tokens_of tokens.now) }
+    ensures { result
+        ≡ reasons.name_reason context before (written_name name.now) (tokens_of tokens.now) }
 {
     if let Before::Operand = before {
         return if is_either(name, "div", "mod") {

@@ -46,7 +46,8 @@ pub(crate) enum Token<'t> {
 
 /// The mark of this one character.
 fn single(byte: u8) -> Option<Mark>
-    ensures { MatchOption result (path.single_in path.singles byte ≡ None) (λ m. path.single_in path.singles byte ≡ Some (mark m)) }
+    ensures { MatchOption result (path.single_in path.singles byte ≡ None)
+        (λ m. path.single_in path.singles byte ≡ Some (mark m)) }
 {
     match byte {
         b'*' => Some(Mark::Star),
@@ -67,7 +68,8 @@ fn single(byte: u8) -> Option<Mark>
 
 /// The mark of these two characters.
 fn double(first: u8, second: u8) -> Option<Mark>
-    ensures { MatchOption result (path.double_in path.doubles first second ≡ None) (λ m. path.double_in path.doubles first second ≡ Some (mark m)) }
+    ensures { MatchOption result (path.double_in path.doubles first second ≡ None)
+        (λ m. path.double_in path.doubles first second ≡ Some (mark m)) }
 {
     match (first, second) {
         (b'/', b'/') => Some(Mark::Slashes),
@@ -80,7 +82,10 @@ fn double(first: u8, second: u8) -> Option<Mark>
 
 /// The mark of two characters at the front, and what follows it.
 fn double_at(text: &str) -> Option<(Mark, &str)>
-    ensures { MatchOption result ((a b : ℕ) (after : List ℕ) → text.now ≡ a ∷ b ∷ after → path.double_in path.doubles a b ≡ None) (λ r. (a : ℕ) × (b : ℕ) × (text.now ≡ a ∷ b ∷ r.1.now) × (path.double_in path.doubles a b ≡ Some (mark r.0))) }
+    ensures { MatchOption result
+        ((a b : ℕ) (after : List ℕ) → text.now ≡ a ∷ b ∷ after → path.double_in path.doubles a b
+        ≡ None) (λ r. (a : ℕ) × (b : ℕ) × (text.now ≡ a ∷ b ∷ r.1.now)
+        × (path.double_in path.doubles a b ≡ Some (mark r.0))) }
 {
     let (first, others) = text.as_bytes().split_first()?;
     let (second, _) = others.split_first()?;
@@ -92,7 +97,10 @@ fn double_at(text: &str) -> Option<(Mark, &str)>
 
 /// The mark of one character at the front, and what follows it.
 fn single_at(text: &str) -> Option<(Mark, &str)>
-    ensures { MatchOption result ((a : ℕ) (after : List ℕ) → text.now ≡ a ∷ after → path.single_in path.singles a ≡ None) (λ r. (a : ℕ) × (text.now ≡ a ∷ r.1.now) × (path.single_in path.singles a ≡ Some (mark r.0))) }
+    ensures { MatchOption result
+        ((a : ℕ) (after : List ℕ) → text.now ≡ a ∷ after → path.single_in path.singles a ≡ None)
+        (λ r. (a : ℕ) × (text.now ≡ a ∷ r.1.now)
+        × (path.single_in path.singles a ≡ Some (mark r.0))) }
 {
     let (first, _) = text.as_bytes().split_first()?;
     match single(*first) {
@@ -103,7 +111,9 @@ fn single_at(text: &str) -> Option<(Mark, &str)>
 
 /// The longest mark at the front, and what follows it.
 fn mark_at(text: &str) -> Option<(Mark, &str)>
-    ensures { MatchOption result ((m : path.Mark) (after : List ℕ) → path.MarkAt text.now m after → ⊥) (λ r. path.MarkAt text.now (mark r.0) r.1.now) }
+    ensures { MatchOption result
+        ((m : path.Mark) (after : List ℕ) → path.MarkAt text.now m after → ⊥)
+        (λ r. path.MarkAt text.now (mark r.0) r.1.now) }
 {
     match double_at(text) {
         Some(found) => Some(found),
@@ -141,7 +151,9 @@ fn unprefixed(local: &str) -> Token<'_>
 
 /// The token at the front that is a name, or `p:*`, and what follows it.
 fn name_token(text: &str) -> Option<(Token<'_>, &str)>
-    ensures { MatchOption result ((t : path.Token) (after : List ℕ) → NameTokenAt text.now t after → ⊥) (λ r. NameTokenAt text.now (token r.0) r.1.now) }
+    ensures { MatchOption result
+        ((t : path.Token) (after : List ℕ) → NameTokenAt text.now t after → ⊥)
+        (λ r. NameTokenAt text.now (token r.0) r.1.now) }
 {
     let (first, rest) = ncname(text)?;
     let Some(behind) = after_byte(rest, b':') else {
@@ -167,7 +179,8 @@ fn name_token(text: &str) -> Option<(Token<'_>, &str)>
 
 /// What follows the variable reference at the front (XPath 1.0, 3.7).
 fn after_variable(text: &str) -> Option<&str>
-    ensures { MatchOption result ((after : List ℕ) → VariableAt text.now after → ⊥) (λ r. VariableAt text.now r.now) }
+    ensures { MatchOption result ((after : List ℕ) → VariableAt text.now after → ⊥)
+        (λ r. VariableAt text.now r.now) }
 {
     match qname(after_byte(text, b'$')?) {
         Some((_, after)) => Some(after),
@@ -177,7 +190,9 @@ fn after_variable(text: &str) -> Option<&str>
 
 /// The longest token at the front, and what follows it.
 fn token_at(text: &str) -> Option<(Token<'_>, &str)>
-    ensures { MatchOption result ((t : path.Token) (after : List ℕ) → path.TokenAt text.now t after → ⊥) (λ r. path.TokenAt text.now (token r.0) r.1.now) }
+    ensures { MatchOption result
+        ((t : path.Token) (after : List ℕ) → path.TokenAt text.now t after → ⊥)
+        (λ r. path.TokenAt text.now (token r.0) r.1.now) }
 {
     if begins_with_number(text) {
         return Some((Token::Number, after_fraction(after_digits(text))));
@@ -210,7 +225,9 @@ fn token_count(text: &str) -> usize
 /// The tokens of a text, in as much room as they take.
 pub(crate) fn tokens<'t>(arena: &'t Bump, text: &'t str) -> Result<&'t [Token<'t>], PathFault>
     ensures ok { IfOk result (λ r. path.Tokens text.now (tokens_of r.now)) }
-    ensures no { IfErr result (λ e. OrNoMemory e ((e ≡ PathFault.Malformed) × ((ts : List path.Token) → path.Tokens text.now ts → ⊥))) }
+    ensures no { IfErr result
+        (λ e. OrNoMemory e
+        ((e ≡ PathFault.Malformed) × ((ts : List path.Token) → path.Tokens text.now ts → ⊥))) }
 {
     let mut found = Vec::with_capacity(arena, token_count(text))?;
     let mut rest = text;
@@ -229,7 +246,8 @@ pub(crate) fn tokens<'t>(arena: &'t Bump, text: &'t str) -> Result<&'t [Token<'t
 
 /// What follows this mark, where the tokens begin with it.
 pub(crate) fn after_mark<'a, 't>(tokens: &'a [Token<'t>], wanted: Mark) -> Option<&'a [Token<'t>]>
-    ensures { MatchOption result ((r : List path.Token) → tokens_of tokens.now ≡ path.mark (mark wanted) ∷ r → ⊥)
+    ensures { MatchOption result
+        ((r : List path.Token) → tokens_of tokens.now ≡ path.mark (mark wanted) ∷ r → ⊥)
         (λ rest. tokens_of tokens.now ≡ path.mark (mark wanted) ∷ tokens_of rest.now) }
 {
     match tokens.split_first() {
@@ -240,7 +258,9 @@ pub(crate) fn after_mark<'a, 't>(tokens: &'a [Token<'t>], wanted: Mark) -> Optio
 
 /// Whether the tokens begin with this mark.
 pub(crate) fn begins_with(tokens: &[Token<'_>], wanted: Mark) -> bool
-    ensures { MatchBool result ((r : List path.Token) × (tokens_of tokens.now ≡ path.mark (mark wanted) ∷ r)) ((r : List path.Token) → tokens_of tokens.now ≡ path.mark (mark wanted) ∷ r → ⊥) }
+    ensures { MatchBool result
+        ((r : List path.Token) × (tokens_of tokens.now ≡ path.mark (mark wanted) ∷ r))
+        ((r : List path.Token) → tokens_of tokens.now ≡ path.mark (mark wanted) ∷ r → ⊥) }
 {
     match after_mark(tokens, wanted) {
         Some(_) => true,
@@ -250,8 +270,11 @@ pub(crate) fn begins_with(tokens: &[Token<'_>], wanted: Mark) -> bool
 
 /// What follows this word, a name without a prefix, where the tokens begin with it.
 pub(crate) fn after_word<'a, 't>(tokens: &'a [Token<'t>], word: &str) -> Option<&'a [Token<'t>]>
-    ensures { MatchOption result ((r : List path.Token) → tokens_of tokens.now ≡ path.name (record { prefix = []; local = word.now }) ∷ r → ⊥)
-        (λ rest. tokens_of tokens.now ≡ path.name (record { prefix = []; local = word.now }) ∷ tokens_of rest.now) }
+    ensures { MatchOption result
+        ((r : List path.Token) → tokens_of tokens.now
+        ≡ path.name (record { prefix = []; local = word.now }) ∷ r → ⊥)
+        (λ rest. tokens_of tokens.now ≡ path.name (record { prefix = []; local = word.now }) ∷
+        tokens_of rest.now) }
 {
     match tokens.split_first() {
         Some((first, rest)) => match first {

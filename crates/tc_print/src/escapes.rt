@@ -60,7 +60,8 @@ pub fn write_escaped<K: Sink>(within: Within, bytes: &[u8], sink: &mut K) -> Res
     ensures ok { OnOk result
         (Appended (K.written sink.old) (K.written sink.new) (flat_map (escaped within) bytes.now)) }
     ensures fault { OnErr result
-        (WroteFront (K.written sink.old) (K.written sink.new) (flat_map (escaped within) bytes.now)) }
+        (WroteFront (K.written sink.old) (K.written sink.new)
+        (flat_map (escaped within) bytes.now)) }
     ensures rose { OnErr result (Rose (K.faults sink.old) (K.faults sink.new)) }
 {
     if bytes.len() >= LONG && is_plain(within, bytes) {

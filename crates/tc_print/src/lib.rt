@@ -38,7 +38,8 @@ pub fn print<K: Sink>(nodes: &[Node<'_>], sink: &mut K) -> Result<(), WriteFault
     ensures rose { OnErr result (Rose (K.faults sink.old) (K.faults sink.new)) }
 
     // The text of a document is read back as that document.
-    ensures read_back { IsShallowDocument (trees nodes.now) → IsReadAs (printed (trees nodes.now)) (trees nodes.now) }
+    ensures read_back { IsShallowDocument (trees nodes.now)
+        → IsReadAs (printed (trees nodes.now)) (trees nodes.now) }
 {
     print_within("", nodes, sink)
 }
@@ -48,9 +49,11 @@ pub fn print<K: Sink>(nodes: &[Node<'_>], sink: &mut K) -> Result<(), WriteFault
 fn print_within<K: Sink>(default: &str, nodes: &[Node<'_>], sink: &mut K) -> Result<(), WriteFault>
     ensures count { K.faults sink.old ≤ K.faults sink.new }
     ensures ok { OnOk result
-        (Appended (K.written sink.old) (K.written sink.new) (printed_in default.now (trees nodes.now))) }
+        (Appended (K.written sink.old) (K.written sink.new)
+        (printed_in default.now (trees nodes.now))) }
     ensures fault { OnErr result
-        (WroteFront (K.written sink.old) (K.written sink.new) (printed_in default.now (trees nodes.now))) }
+        (WroteFront (K.written sink.old) (K.written sink.new)
+        (printed_in default.now (trees nodes.now))) }
     ensures rose { OnErr result (Rose (K.faults sink.old) (K.faults sink.new)) }
 {
     for node in nodes {
@@ -64,9 +67,11 @@ fn print_within<K: Sink>(default: &str, nodes: &[Node<'_>], sink: &mut K) -> Res
 fn print_one<K: Sink>(default: &str, node: &Node<'_>, sink: &mut K) -> Result<(), WriteFault>
     ensures count { K.faults sink.old ≤ K.faults sink.new }
     ensures ok { OnOk result
-        (Appended (K.written sink.old) (K.written sink.new) (printed_in default.now (before node.now none))) }
+        (Appended (K.written sink.old) (K.written sink.new)
+        (printed_in default.now (before node.now none))) }
     ensures fault { OnErr result
-        (WroteFront (K.written sink.old) (K.written sink.new) (printed_in default.now (before node.now none))) }
+        (WroteFront (K.written sink.old) (K.written sink.new)
+        (printed_in default.now (before node.now none))) }
     ensures rose { OnErr result (Rose (K.faults sink.old) (K.faults sink.new)) }
 {
     match node {

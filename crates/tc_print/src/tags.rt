@@ -33,8 +33,10 @@ pub fn begin_tag<'a, K: Sink>(
     ensures ok { OnOk result
         (Appended (K.written sink.old) (K.written sink.new) (begun_tag default.now (name of.now))) }
     ensures fault { OnErr result
-        (WroteFront (K.written sink.old) (K.written sink.new) (begun_tag default.now (name of.now))) }
-    ensures within { IfOk result (λ within. within.now ≡ p.default_within default.now (name of.now)) }
+        (WroteFront (K.written sink.old) (K.written sink.new)
+        (begun_tag default.now (name of.now))) }
+    ensures within { IfOk result
+        (λ within. within.now ≡ p.default_within default.now (name of.now)) }
     ensures rose { OnErr result (Rose (K.faults sink.old) (K.faults sink.new)) }
 {
     sink.write(b"<")?;
@@ -74,9 +76,11 @@ fn write_short_end_tag<K: Sink>(local: &str, sink: &mut K) -> Result<(), WriteFa
     requires { length local.now ≤ 61 }
     ensures count { K.faults sink.old ≤ K.faults sink.new }
     ensures ok { OnOk result
-        (Appended (K.written sink.old) (K.written sink.new) (codes "</" ++ local.now ++ codes ">")) }
+        (Appended (K.written sink.old) (K.written sink.new)
+        (codes "</" ++ local.now ++ codes ">")) }
     ensures fault { OnErr result
-        (WroteFront (K.written sink.old) (K.written sink.new) (codes "</" ++ local.now ++ codes ">")) }
+        (WroteFront (K.written sink.old) (K.written sink.new)
+        (codes "</" ++ local.now ++ codes ">")) }
     ensures rose { OnErr result (Rose (K.faults sink.old) (K.faults sink.new)) }
 {
     let tag = short_end_tag(local);
@@ -136,10 +140,13 @@ fn write_declaration<'a, K: Sink>(
 ) -> Result<&'a str, WriteFault>
     ensures count { K.faults sink.old ≤ K.faults sink.new }
     ensures ok { OnOk result
-        (Appended (K.written sink.old) (K.written sink.new) (p.declaration default.now (name of.now))) }
+        (Appended (K.written sink.old) (K.written sink.new)
+        (p.declaration default.now (name of.now))) }
     ensures fault { OnErr result
-        (WroteFront (K.written sink.old) (K.written sink.new) (p.declaration default.now (name of.now))) }
-    ensures within { IfOk result (λ within. within.now ≡ p.default_within default.now (name of.now)) }
+        (WroteFront (K.written sink.old) (K.written sink.new)
+        (p.declaration default.now (name of.now))) }
+    ensures within { IfOk result
+        (λ within. within.now ≡ p.default_within default.now (name of.now)) }
     ensures rose { OnErr result (Rose (K.faults sink.old) (K.faults sink.new)) }
 {
     if needs_no_declaration(default, of) {

@@ -27,7 +27,8 @@ use tc_model::Name;
 /// The namespace and local part of the name for which a word stands, or nothing where it stands for none.
 fn parts_of<'b, 't>(scope: &Scope<'b>, word: Word<'t>) -> Option<(&'b str, &'t str)>
     ensures { MatchOption result (names.name_in (scope_of scope.now) (seen.word word.entry) ≡ None)
-        (λ r. names.name_in (scope_of scope.now) (seen.word word.entry) ≡ Some (record { uri = r.0.now; local = r.1.now })) }
+        (λ r. names.name_in (scope_of scope.now) (seen.word word.entry)
+        ≡ Some (record { uri = r.0.now; local = r.1.now })) }
 {
     match word {
         Word::Name(n) | Word::Escaped(n) => Some((default_of(scope), n)),
@@ -101,7 +102,9 @@ impl<'b> Parser<'b> {
 
     /// The name for which a word stands, or nothing where it stands for none.
     fn name(&self, word: Word<'_>) -> Result<Option<Name<'b>>, RncFault>
-        ensures ok { IfOk result (λ o. MatchOption o (names.name_in (scope_of self.now.scope) (seen.word word.entry) ≡ None)
+        ensures ok { IfOk result
+            (λ o. MatchOption o
+            (names.name_in (scope_of self.now.scope) (seen.word word.entry) ≡ None)
             (λ n. names.name_in (scope_of self.now.scope) (seen.word word.entry) ≡ Some (name n))) }
         ensures no { IfErr result (λ e. e ≡ NoMemory) }
     {

@@ -21,14 +21,17 @@ const XMLNS: &str = "http://www.w3.org/2000/xmlns/";
 
 /// Whether a namespace is inherited here, where one may be.
 fn is_inherited(token: &Token<'_>, may_inherit: bool) -> bool
-    ensures { MatchBool result (IsTrue may_inherit × names.IsWord (codes "inherit") (seen.token token.now)) (IsTrue may_inherit → names.IsWord (codes "inherit") (seen.token token.now) → ⊥) }
+    ensures { MatchBool result
+        (IsTrue may_inherit × names.IsWord (codes "inherit") (seen.token token.now))
+        (IsTrue may_inherit → names.IsWord (codes "inherit") (seen.token token.now) → ⊥) }
 {
     may_inherit && token.is_name("inherit")
 }
 
 /// The place of a `~` that stands first.
 fn tilde_at(tokens: &[Token<'_>]) -> Option<Place>
-    ensures { MatchOption result (names.LacksMark 126 (seen.tokens tokens.now)) (λ p. schemas.BeginsAt 126 (seen.tokens tokens.now) p.0) }
+    ensures { MatchOption result (names.LacksMark 126 (seen.tokens tokens.now))
+        (λ p. schemas.BeginsAt 126 (seen.tokens tokens.now) p.0) }
 {
     let (first, _) = first_of(tokens)?;
     if first.is_mark('~') {
@@ -44,9 +47,12 @@ fn literal<'s, 't>(
     end: End,
     may_inherit: bool,
 ) -> Result<(&'t str, &'s [Token<'t>]), RncFault>
-    ensures ok { IfOk result (λ r. schemas.LiteralAt (seen.tokens tokens.now) r.0.now (seen.tokens r.1.now)) }
-    ensures whole { IfOk result (λ r. (s : unread.Refusal) → unread.NoNamespaceName (seen.end end) may_inherit (seen.tokens tokens.now) s → ⊥) }
-    ensures no { IfErr result (Refuses (unread.NoNamespaceName (seen.end end) may_inherit (seen.tokens tokens.now))) }
+    ensures ok { IfOk result
+        (λ r. schemas.LiteralAt (seen.tokens tokens.now) r.0.now (seen.tokens r.1.now)) }
+    ensures whole { IfOk result (λ r. (s : unread.Refusal)
+        → unread.NoNamespaceName (seen.end end) may_inherit (seen.tokens tokens.now) s → ⊥) }
+    ensures no { IfErr result
+        (Refuses (unread.NoNamespaceName (seen.end end) may_inherit (seen.tokens tokens.now))) }
 {
     let Some((first, rest)) = first_of(tokens) else {
         return Err(unexpected(tokens, end));
@@ -72,9 +78,12 @@ fn uri<'s, 't>(
     end: End,
     may_inherit: bool,
 ) -> Result<(&'t str, &'s [Token<'t>]), RncFault>
-    ensures ok { IfOk result (λ r. schemas.UriAt (seen.tokens tokens.now) r.0.now (seen.tokens r.1.now)) }
-    ensures whole { IfOk result (λ r. (s : unread.Refusal) → stops.UriStops (seen.end end) may_inherit (seen.tokens tokens.now) s → ⊥) }
-    ensures no { IfErr result (Refuses (stops.UriStops (seen.end end) may_inherit (seen.tokens tokens.now))) }
+    ensures ok { IfOk result
+        (λ r. schemas.UriAt (seen.tokens tokens.now) r.0.now (seen.tokens r.1.now)) }
+    ensures whole { IfOk result (λ r. (s : unread.Refusal)
+        → stops.UriStops (seen.end end) may_inherit (seen.tokens tokens.now) s → ⊥) }
+    ensures no { IfErr result
+        (Refuses (stops.UriStops (seen.end end) may_inherit (seen.tokens tokens.now))) }
 {
     let Some(rest) = after_mark(tokens, '=') else {
         return Err(unexpected(tokens, end));
@@ -88,9 +97,12 @@ fn prefix_uri<'s, 't>(
     end: End,
     may_inherit: bool,
 ) -> Result<(&'t str, &'t str, &'s [Token<'t>]), RncFault>
-    ensures ok { IfOk result (λ r. schemas.PrefixUriAt (seen.tokens tokens.now) r.0.now r.1.now (seen.tokens r.2.now)) }
-    ensures whole { IfOk result (λ r. (s : unread.Refusal) → stops.PrefixStops (seen.end end) may_inherit (seen.tokens tokens.now) s → ⊥) }
-    ensures no { IfErr result (Refuses (stops.PrefixStops (seen.end end) may_inherit (seen.tokens tokens.now))) }
+    ensures ok { IfOk result
+        (λ r. schemas.PrefixUriAt (seen.tokens tokens.now) r.0.now r.1.now (seen.tokens r.2.now)) }
+    ensures whole { IfOk result (λ r. (s : unread.Refusal)
+        → stops.PrefixStops (seen.end end) may_inherit (seen.tokens tokens.now) s → ⊥) }
+    ensures no { IfErr result
+        (Refuses (stops.PrefixStops (seen.end end) may_inherit (seen.tokens tokens.now))) }
 {
     let Some((first, rest)) = first_of(tokens) else {
         return Err(unexpected(tokens, end));
@@ -104,7 +116,8 @@ fn prefix_uri<'s, 't>(
 
 /// Whether a prefix may be bound to a namespace name: it isn't yet, and the namespace allows it.
 fn may_bind(scope: &Scope<'_>, prefix: &str, uri: &str) -> bool
-    ensures { MatchBool result (names.MayBind (scope_of scope.now) prefix.now uri.now) (names.MayBind (scope_of scope.now) prefix.now uri.now → ⊥) }
+    ensures { MatchBool result (names.MayBind (scope_of scope.now) prefix.now uri.now)
+        (names.MayBind (scope_of scope.now) prefix.now uri.now → ⊥) }
 {
     match scope.uri_of(prefix) {
         Some(_) => false,
@@ -114,7 +127,8 @@ fn may_bind(scope: &Scope<'_>, prefix: &str, uri: &str) -> bool
 
 /// Whether a declaration begins here.
 fn begins_declaration(tokens: &[Token<'_>]) -> bool
-    ensures { MatchBool result (schemas.BeginsDeclaration (seen.tokens tokens.now)) (schemas.LacksDeclaration (seen.tokens tokens.now)) }
+    ensures { MatchBool result (schemas.BeginsDeclaration (seen.tokens tokens.now))
+        (schemas.LacksDeclaration (seen.tokens tokens.now)) }
 {
     let Some((first, _)) = first_of(tokens) else {
         return false;
@@ -136,10 +150,18 @@ fn namespace<'b, 's, 't>(
     rest: &'s [Token<'t>],
     end: End,
 ) -> Result<&'s [Token<'t>], RncFault>
-    requires { schemas.StartsWith (codes "namespace") (seen.tokens tokens.now) (seen.tokens rest.now) }
-    ensures ok { IfOk result (λ r. names.DeclarationAt (scope_of scope.old) (seen.tokens tokens.now) (scope_of scope.new) (seen.tokens r.now)) }
-    ensures whole { IfOk result (λ r. (s : unread.Refusal) → stops.DeclarationStops (seen.end end) (scope_of scope.old) (seen.tokens tokens.now) s → ⊥) }
-    ensures no { IfErr result (Refuses (stops.DeclarationStops (seen.end end) (scope_of scope.old) (seen.tokens tokens.now))) }
+    requires { schemas.StartsWith (codes "namespace") (seen.tokens tokens.now)
+        (seen.tokens rest.now) }
+    ensures ok { IfOk result
+        (λ r. names.DeclarationAt (scope_of scope.old) (seen.tokens tokens.now)
+        (scope_of scope.new) (seen.tokens r.now)) }
+    ensures whole { IfOk result
+        (λ r. (s : unread.Refusal)
+        → stops.DeclarationStops (seen.end end) (scope_of scope.old) (seen.tokens tokens.now) s
+        → ⊥) }
+    ensures no { IfErr result
+        (Refuses
+        (stops.DeclarationStops (seen.end end) (scope_of scope.old) (seen.tokens tokens.now))) }
 {
     let (prefix, value, after) = prefix_uri(rest, end, true)?;
     if !may_bind(scope, prefix, value) {
@@ -158,11 +180,19 @@ fn default_alone<'b, 's, 't>(
     rest: &'s [Token<'t>],
     end: End,
 ) -> Result<&'s [Token<'t>], RncFault>
-    requires words { schemas.StartsWithBoth (codes "default") (codes "namespace") (seen.tokens tokens.now) (seen.tokens rest.now) }
+    requires words { schemas.StartsWithBoth (codes "default") (codes "namespace")
+        (seen.tokens tokens.now) (seen.tokens rest.now) }
     requires alone { schemas.BeginsEquals (seen.tokens rest.now) }
-    ensures ok { IfOk result (λ r. names.DeclarationAt (scope_of scope.old) (seen.tokens tokens.now) (scope_of scope.new) (seen.tokens r.now)) }
-    ensures whole { IfOk result (λ r. (s : unread.Refusal) → stops.DeclarationStops (seen.end end) (scope_of scope.old) (seen.tokens tokens.now) s → ⊥) }
-    ensures no { IfErr result (Refuses (stops.DeclarationStops (seen.end end) (scope_of scope.old) (seen.tokens tokens.now))) }
+    ensures ok { IfOk result
+        (λ r. names.DeclarationAt (scope_of scope.old) (seen.tokens tokens.now)
+        (scope_of scope.new) (seen.tokens r.now)) }
+    ensures whole { IfOk result
+        (λ r. (s : unread.Refusal)
+        → stops.DeclarationStops (seen.end end) (scope_of scope.old) (seen.tokens tokens.now) s
+        → ⊥) }
+    ensures no { IfErr result
+        (Refuses
+        (stops.DeclarationStops (seen.end end) (scope_of scope.old) (seen.tokens tokens.now))) }
 {
     let (value, after) = uri(rest, end, true)?;
     if !may_bind(scope, "", value) {
@@ -181,11 +211,19 @@ fn default_and_prefix<'b, 's, 't>(
     rest: &'s [Token<'t>],
     end: End,
 ) -> Result<&'s [Token<'t>], RncFault>
-    requires words { schemas.StartsWithBoth (codes "default") (codes "namespace") (seen.tokens tokens.now) (seen.tokens rest.now) }
+    requires words { schemas.StartsWithBoth (codes "default") (codes "namespace")
+        (seen.tokens tokens.now) (seen.tokens rest.now) }
     requires both { names.LacksMark 61 (seen.tokens rest.now) }
-    ensures ok { IfOk result (λ r. names.DeclarationAt (scope_of scope.old) (seen.tokens tokens.now) (scope_of scope.new) (seen.tokens r.now)) }
-    ensures whole { IfOk result (λ r. (s : unread.Refusal) → stops.DeclarationStops (seen.end end) (scope_of scope.old) (seen.tokens tokens.now) s → ⊥) }
-    ensures no { IfErr result (Refuses (stops.DeclarationStops (seen.end end) (scope_of scope.old) (seen.tokens tokens.now))) }
+    ensures ok { IfOk result
+        (λ r. names.DeclarationAt (scope_of scope.old) (seen.tokens tokens.now)
+        (scope_of scope.new) (seen.tokens r.now)) }
+    ensures whole { IfOk result
+        (λ r. (s : unread.Refusal)
+        → stops.DeclarationStops (seen.end end) (scope_of scope.old) (seen.tokens tokens.now) s
+        → ⊥) }
+    ensures no { IfErr result
+        (Refuses
+        (stops.DeclarationStops (seen.end end) (scope_of scope.old) (seen.tokens tokens.now))) }
 {
     let (prefix, value, after) = prefix_uri(rest, end, true)?;
     if !may_bind(scope, "", value) {
@@ -207,10 +245,18 @@ fn default_namespace<'b, 's, 't>(
     behind: &'s [Token<'t>],
     end: End,
 ) -> Result<&'s [Token<'t>], RncFault>
-    requires { schemas.StartsWith (codes "default") (seen.tokens tokens.now) (seen.tokens behind.now) }
-    ensures ok { IfOk result (λ r. names.DeclarationAt (scope_of scope.old) (seen.tokens tokens.now) (scope_of scope.new) (seen.tokens r.now)) }
-    ensures whole { IfOk result (λ r. (s : unread.Refusal) → stops.DeclarationStops (seen.end end) (scope_of scope.old) (seen.tokens tokens.now) s → ⊥) }
-    ensures no { IfErr result (Refuses (stops.DeclarationStops (seen.end end) (scope_of scope.old) (seen.tokens tokens.now))) }
+    requires { schemas.StartsWith (codes "default") (seen.tokens tokens.now)
+        (seen.tokens behind.now) }
+    ensures ok { IfOk result
+        (λ r. names.DeclarationAt (scope_of scope.old) (seen.tokens tokens.now)
+        (scope_of scope.new) (seen.tokens r.now)) }
+    ensures whole { IfOk result
+        (λ r. (s : unread.Refusal)
+        → stops.DeclarationStops (seen.end end) (scope_of scope.old) (seen.tokens tokens.now) s
+        → ⊥) }
+    ensures no { IfErr result
+        (Refuses
+        (stops.DeclarationStops (seen.end end) (scope_of scope.old) (seen.tokens tokens.now))) }
 {
     let Some(rest) = after_word(behind, "namespace") else {
         return Err(unexpected(behind, end));
@@ -229,9 +275,16 @@ fn declaration<'b, 's, 't>(
     end: End,
 ) -> Result<&'s [Token<'t>], RncFault>
     requires { schemas.BeginsDeclaration (seen.tokens tokens.now) }
-    ensures ok { IfOk result (λ r. names.DeclarationAt (scope_of scope.old) (seen.tokens tokens.now) (scope_of scope.new) (seen.tokens r.now)) }
-    ensures whole { IfOk result (λ r. (s : unread.Refusal) → stops.DeclarationStops (seen.end end) (scope_of scope.old) (seen.tokens tokens.now) s → ⊥) }
-    ensures no { IfErr result (Refuses (stops.DeclarationStops (seen.end end) (scope_of scope.old) (seen.tokens tokens.now))) }
+    ensures ok { IfOk result
+        (λ r. names.DeclarationAt (scope_of scope.old) (seen.tokens tokens.now)
+        (scope_of scope.new) (seen.tokens r.now)) }
+    ensures whole { IfOk result
+        (λ r. (s : unread.Refusal)
+        → stops.DeclarationStops (seen.end end) (scope_of scope.old) (seen.tokens tokens.now) s
+        → ⊥) }
+    ensures no { IfErr result
+        (Refuses
+        (stops.DeclarationStops (seen.end end) (scope_of scope.old) (seen.tokens tokens.now))) }
 {
     if let Some(rest) = after_word(tokens, "namespace") {
         return namespace(arena, scope, tokens, rest, end);
@@ -253,9 +306,13 @@ pub fn declarations<'b, 's, 't>(
     tokens: &'s [Token<'t>],
     end: End,
 ) -> Result<&'s [Token<'t>], RncFault>
-    ensures ok { IfOk result (λ r. schemas.Declares (seen.end end) (scope_of scope.old) (scope_of scope.new) (seen.tokens tokens.now) (seen.tokens r.now)) }
+    ensures ok { IfOk result
+        (λ r. schemas.Declares (seen.end end) (scope_of scope.old) (scope_of scope.new)
+        (seen.tokens tokens.now) (seen.tokens r.now)) }
     ensures all { IfOk result (λ r. schemas.LacksDeclaration (seen.tokens r.now)) }
-    ensures no { IfErr result (Refuses (stops.SchemaStops (seen.end end) (scope_of scope.old) 2000 (seen.tokens tokens.now))) }
+    ensures no { IfErr result
+        (Refuses
+        (stops.SchemaStops (seen.end end) (scope_of scope.old) 2000 (seen.tokens tokens.now))) }
 {
     let mut rest = tokens.split_at(0).1;
     while begins_declaration(rest) {

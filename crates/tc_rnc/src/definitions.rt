@@ -25,8 +25,11 @@ use tc_base::{Place, Why};
 
 /// What follows the two marks of an operator, if the second one stands directly after this first one.
 fn after_equals<'s, 't>(first: &Token<'t>, rest: &'s [Token<'t>]) -> Option<&'s [Token<'t>]>
-    ensures { MatchOption result ((u : model.Token) (after : List model.Token) → seen.tokens rest.now ≡ u ∷ after → names.IsMark 61 u → u.place ≡ first.now.place.0 + 1 → ⊥)
-        (λ r. (u : model.Token) × (seen.tokens rest.now ≡ u ∷ seen.tokens r.now) × names.IsMark 61 u × (u.place ≡ first.now.place.0 + 1)) }
+    ensures { MatchOption result
+        ((u : model.Token) (after : List model.Token) → seen.tokens rest.now ≡ u ∷ after
+        → names.IsMark 61 u → u.place ≡ first.now.place.0 + 1 → ⊥)
+        (λ r. (u : model.Token) × (seen.tokens rest.now ≡ u ∷ seen.tokens r.now)
+        × names.IsMark 61 u × (u.place ≡ first.now.place.0 + 1)) }
 {
     let (second, after) = first_of(rest)?;
     if !second.is_mark('=') {
@@ -41,7 +44,9 @@ fn after_equals<'s, 't>(first: &Token<'t>, rest: &'s [Token<'t>]) -> Option<&'s 
 
 /// The operator that stands first, and what follows it.
 pub fn operator<'s, 't>(tokens: &'s [Token<'t>]) -> Option<(Joins, &'s [Token<'t>])>
-    ensures { MatchOption result ((j : trees.Joins) (after : List model.Token) → syntax.OperatorAt (seen.tokens tokens.now) j after → ⊥)
+    ensures { MatchOption result
+        ((j : trees.Joins) (after : List model.Token)
+        → syntax.OperatorAt (seen.tokens tokens.now) j after → ⊥)
         (λ r. syntax.OperatorAt (seen.tokens tokens.now) (seen.joins r.0) (seen.tokens r.1.now)) }
 {
     let (first, rest) = first_of(tokens)?;
@@ -61,7 +66,8 @@ pub fn operator<'s, 't>(tokens: &'s [Token<'t>]) -> Option<(Joins, &'s [Token<'t
 
 /// The name of the definition that begins with this token; that of `start` is empty.
 fn defined_name<'t>(first: &Token<'t>) -> Option<&'t str>
-    ensures { MatchOption result (blocks.DefinesNothing (seen.token first.now)) (λ n. blocks.Defines (seen.token first.now) n.now) }
+    ensures { MatchOption result (blocks.DefinesNothing (seen.token first.now))
+        (λ n. blocks.Defines (seen.token first.now) n.now) }
 {
     if first.is_name("start") {
         return Some("");
@@ -71,7 +77,8 @@ fn defined_name<'t>(first: &Token<'t>) -> Option<&'t str>
 
 /// Whether definitions end here.
 fn is_end(tokens: &[Token<'_>]) -> bool
-    ensures { MatchBool result (blocks.IsEndOfDefinitions (seen.tokens tokens.now)) (blocks.IsEndOfDefinitions (seen.tokens tokens.now) → ⊥) }
+    ensures { MatchBool result (blocks.IsEndOfDefinitions (seen.tokens tokens.now))
+        (blocks.IsEndOfDefinitions (seen.tokens tokens.now) → ⊥) }
 {
     match first_of(tokens) {
         Some((first, _)) => first.is_mark('}'),
@@ -101,7 +108,15 @@ fn made<'b>(
     body: SPat<'b>,
     place: Place,
 ) -> Result<Def<'b>, RncFault>
-    ensures ok { IfOk result (λ d. seen.definition d ≡ record { name = name.now; joins = seen.joins joins; body = seen.pattern body.entry; place = seen_place place }) }
+    ensures ok { IfOk result
+        (λ d. seen.definition d
+        ≡ record {
+          name = name.now;
+          joins = seen.joins joins;
+          body = seen.pattern body.entry;
+          place =
+              seen_place place;
+        }) }
     ensures no { IfErr result (λ e. e ≡ NoMemory) }
 {
     let name: &'b str = arena.try_alloc_str(name)?;
@@ -120,8 +135,13 @@ impl<'b> Parser<'b> {
         tokens: &'s [Token<'t>],
         deepest: u32,
     ) -> Result<(Joins, SPat<'b>, &'s [Token<'t>]), RncFault>
-        ensures ok { IfOk result (λ r. blocks.AssignedAt false (scope_of self.now.scope) deepest (seen.tokens tokens.now) (seen.joins r.0) (seen.pattern r.1) (seen.tokens r.2.now)) }
-        ensures no { IfErr result (Refuses (parts.AssignedStops (seen.end self.now.end) (scope_of self.now.scope) deepest (seen.tokens tokens.now))) }
+        ensures ok { IfOk result
+            (λ r. blocks.AssignedAt false (scope_of self.now.scope) deepest
+            (seen.tokens tokens.now) (seen.joins r.0) (seen.pattern r.1) (seen.tokens r.2.now)) }
+        ensures no { IfErr result
+            (Refuses
+            (parts.AssignedStops (seen.end self.now.end) (scope_of self.now.scope) deepest
+            (seen.tokens tokens.now))) }
     {
         let Some((joins, rest)) = operator(tokens) else {
             return Err(unexpected(tokens, self.end));
@@ -139,9 +159,14 @@ impl<'b> Parser<'b> {
     ) -> Result<&'s [Token<'t>], RncFault>
         requires more { blocks.IsEndOfDefinitions (seen.tokens tokens.now) → ⊥ }
         requires no_div { stops.LacksWord (codes "div") (seen.tokens tokens.now) }
-        ensures ok { IfOk result (λ r. (ds : List trees.Definition) × (map seen.definition defs.new.items ≡ map seen.definition defs.old.items ++ ds)
-            × syntax.DefinitionAt false (scope_of self.now.scope) deepest (seen.tokens tokens.now) ds (seen.tokens r.now)) }
-        ensures no { IfErr result (Refuses (stops.DefinitionStops (seen.end self.now.end) (scope_of self.now.scope) deepest (seen.tokens tokens.now))) }
+        ensures ok { IfOk result (λ r. (ds : List trees.Definition)
+            × (map seen.definition defs.new.items ≡ map seen.definition defs.old.items ++ ds)
+            × syntax.DefinitionAt false (scope_of self.now.scope) deepest
+            (seen.tokens tokens.now) ds (seen.tokens r.now)) }
+        ensures no { IfErr result
+            (Refuses
+            (stops.DefinitionStops (seen.end self.now.end) (scope_of self.now.scope) deepest
+            (seen.tokens tokens.now))) }
     {
         let Some((first, rest)) = first_of(tokens) else {
             return Err(unexpected(tokens, self.end));
@@ -163,9 +188,14 @@ impl<'b> Parser<'b> {
         tokens: &'s [Token<'t>],
         deepest: u32,
     ) -> Result<&'s [Token<'t>], RncFault>
-        ensures ok { IfOk result (λ r. (ds : List trees.Definition) × (map seen.definition defs.new.items ≡ map seen.definition defs.old.items ++ ds)
-            × syntax.DefinitionsAt false (scope_of self.now.scope) deepest (seen.tokens tokens.now) ds (seen.tokens r.now)) }
-        ensures no { IfErr result (Refuses (stops.DefinitionsStop (seen.end self.now.end) (scope_of self.now.scope) deepest (seen.tokens tokens.now))) }
+        ensures ok { IfOk result (λ r. (ds : List trees.Definition)
+            × (map seen.definition defs.new.items ≡ map seen.definition defs.old.items ++ ds)
+            × syntax.DefinitionsAt false (scope_of self.now.scope) deepest
+            (seen.tokens tokens.now) ds (seen.tokens r.now)) }
+        ensures no { IfErr result
+            (Refuses
+            (stops.DefinitionsStop (seen.end self.now.end) (scope_of self.now.scope) deepest
+            (seen.tokens tokens.now))) }
     {
         let mut rest = tokens.split_at(0).1;
         loop {
@@ -186,9 +216,14 @@ impl<'b> Parser<'b> {
         deepest: u32,
     ) -> Result<&'s [Token<'t>], RncFault>
         requires { blocks.IsEndOfDefinitions (seen.tokens tokens.now) → ⊥ }
-        ensures ok { IfOk result (λ r. (ds : List trees.Definition) × (map seen.definition defs.new.items ≡ map seen.definition defs.old.items ++ ds)
-            × syntax.DefinitionAt false (scope_of self.now.scope) deepest (seen.tokens tokens.now) ds (seen.tokens r.now)) }
-        ensures no { IfErr result (Refuses (stops.DefinitionStops (seen.end self.now.end) (scope_of self.now.scope) deepest (seen.tokens tokens.now))) }
+        ensures ok { IfOk result (λ r. (ds : List trees.Definition)
+            × (map seen.definition defs.new.items ≡ map seen.definition defs.old.items ++ ds)
+            × syntax.DefinitionAt false (scope_of self.now.scope) deepest
+            (seen.tokens tokens.now) ds (seen.tokens r.now)) }
+        ensures no { IfErr result
+            (Refuses
+            (stops.DefinitionStops (seen.end self.now.end) (scope_of self.now.scope) deepest
+            (seen.tokens tokens.now))) }
     {
         if let Some(rest) = after_word(tokens, "div") {
             return self.braced_definitions(defs, rest, deepest);
@@ -204,9 +239,14 @@ impl<'b> Parser<'b> {
         tokens: &'s [Token<'t>],
         deepest: u32,
     ) -> Result<&'s [Token<'t>], RncFault>
-        ensures ok { IfOk result (λ r. (ds : List trees.Definition) × (map seen.definition defs.new.items ≡ map seen.definition defs.old.items ++ ds)
-            × stops.BlockAt false (scope_of self.now.scope) deepest (seen.tokens tokens.now) ds (seen.tokens r.now)) }
-        ensures no { IfErr result (Refuses (stops.BlockStops (seen.end self.now.end) (scope_of self.now.scope) deepest (seen.tokens tokens.now))) }
+        ensures ok { IfOk result (λ r. (ds : List trees.Definition)
+            × (map seen.definition defs.new.items ≡ map seen.definition defs.old.items ++ ds)
+            × stops.BlockAt false (scope_of self.now.scope) deepest (seen.tokens tokens.now) ds
+            (seen.tokens r.now)) }
+        ensures no { IfErr result
+            (Refuses
+            (stops.BlockStops (seen.end self.now.end) (scope_of self.now.scope) deepest
+            (seen.tokens tokens.now))) }
     {
         let (inside, deeper) = opened('{', tokens, self.end, deepest)?;
         let closing = self.definitions(defs, inside, deeper)?;

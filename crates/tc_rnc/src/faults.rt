@@ -46,14 +46,16 @@ impl<T: Drop> From<AllocFailed<T>> for RncFault {
 
 /// The first token and those after it.
 pub fn first_of<'s, 't>(tokens: &'s [Token<'t>]) -> Option<(&'s Token<'t>, &'s [Token<'t>])>
-    ensures { MatchOption result (seen.tokens tokens.now ≡ []) (λ r. seen.tokens tokens.now ≡ seen.token r.0.now ∷ seen.tokens r.1.now) }
+    ensures { MatchOption result (seen.tokens tokens.now ≡ [])
+        (λ r. seen.tokens tokens.now ≡ seen.token r.0.now ∷ seen.tokens r.1.now) }
 {
     tokens.split_first()
 }
 
 /// Where the escape of a character begins in the text of a literal, in bytes.
 pub fn escape_in(value: &str) -> Option<usize>
-    ensures { MatchOption result (Lacks unread.escape_mark value.now) (λ n. (n ≡ length_before unread.escape_mark value.now) × (n < length value.now)) }
+    ensures { MatchOption result (Lacks unread.escape_mark value.now)
+        (λ n. (n ≡ length_before unread.escape_mark value.now) × (n < length value.now)) }
 {
     match up_to(value, "\\x{") {
         Some((inside, _)) => Some(inside.len()),
@@ -63,7 +65,8 @@ pub fn escape_in(value: &str) -> Option<usize>
 
 /// Where the escape of a character begins in a literal.
 fn escape_in_literal(token: &Token<'_>) -> Option<Place>
-    ensures { MatchOption result (LacksEscape (seen.token token.now)) (λ p. HasEscape (seen.token token.now) p.0) }
+    ensures { MatchOption result (LacksEscape (seen.token token.now))
+        (λ p. HasEscape (seen.token token.now) p.0) }
 {
     let (quotes, value) = token.quoted()?;
     let before = escape_in(value)?;
@@ -72,7 +75,8 @@ fn escape_in_literal(token: &Token<'_>) -> Option<Place>
 
 /// Whether the backslash, `x` and a brace stand here without anything between.
 fn is_escape(first: &Token<'_>, rest: &[Token<'_>]) -> bool
-    ensures { MatchBool result (IsEscapeText (seen.token first.now) (seen.tokens rest.now)) (IsEscapeText (seen.token first.now) (seen.tokens rest.now) → ⊥) }
+    ensures { MatchBool result (IsEscapeText (seen.token first.now) (seen.tokens rest.now))
+        (IsEscapeText (seen.token first.now) (seen.tokens rest.now) → ⊥) }
 {
     let Some((name, after)) = first_of(rest) else {
         return false;
@@ -90,7 +94,8 @@ fn is_escape(first: &Token<'_>, rest: &[Token<'_>]) -> bool
 /// Where the escape of a character begins as the next tokens, or in the next literal.
 #[tactic(auto, using(crate::proofs::Escapes::escapes))]
 pub fn escape_at(tokens: &[Token<'_>]) -> Option<Place>
-    ensures { MatchOption result (unread.NoEscape (seen.tokens tokens.now)) (λ p. unread.EscapeAt (seen.tokens tokens.now) p.0) }
+    ensures { MatchOption result (unread.NoEscape (seen.tokens tokens.now))
+        (λ p. unread.EscapeAt (seen.tokens tokens.now) p.0) }
 {
     let (first, rest) = first_of(tokens)?;
     if is_escape(first, rest) {
@@ -101,7 +106,8 @@ pub fn escape_at(tokens: &[Token<'_>]) -> Option<Place>
 
 /// Whether `>>` stands here without anything between.
 fn is_two_signs(first: &Token<'_>, rest: &[Token<'_>]) -> bool
-    ensures { MatchBool result (IsTwoSigns (seen.token first.now) (seen.tokens rest.now)) (IsTwoSigns (seen.token first.now) (seen.tokens rest.now) → ⊥) }
+    ensures { MatchBool result (IsTwoSigns (seen.token first.now) (seen.tokens rest.now))
+        (IsTwoSigns (seen.token first.now) (seen.tokens rest.now) → ⊥) }
 {
     let Some((second, _)) = first_of(rest) else {
         return false;
@@ -112,7 +118,8 @@ fn is_two_signs(first: &Token<'_>, rest: &[Token<'_>]) -> bool
 /// Whether an annotation begins here, with `[` or `>>`.
 #[tactic(auto, using(crate::proofs::Constructs::annotations))]
 fn is_annotation(first: &Token<'_>, rest: &[Token<'_>]) -> bool
-    ensures { MatchBool result (unread.AnnotationAt (seen.token first.now ∷ seen.tokens rest.now)) (unread.AnnotationAt (seen.token first.now ∷ seen.tokens rest.now) → ⊥) }
+    ensures { MatchBool result (unread.AnnotationAt (seen.token first.now ∷ seen.tokens rest.now))
+        (unread.AnnotationAt (seen.token first.now ∷ seen.tokens rest.now) → ⊥) }
 {
     if first.is_mark('[') {
         return true;
@@ -173,7 +180,8 @@ fn unread_pattern(token: &Token<'_>) -> Option<Why>
 
 /// The refusal of the literal that stands first, where it isn't read wherever it stands.
 pub fn unread_literal(tokens: &[Token<'_>]) -> Option<RncFault>
-    ensures { MatchOption result (ReadsLiteral (seen.tokens tokens.now)) (λ e. Refuses (StopsAtLiteral (seen.tokens tokens.now)) e) }
+    ensures { MatchOption result (ReadsLiteral (seen.tokens tokens.now))
+        (λ e. Refuses (StopsAtLiteral (seen.tokens tokens.now)) e) }
 {
     let (first, _) = first_of(tokens)?;
     if !first.is_literal() {

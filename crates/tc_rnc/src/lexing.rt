@@ -39,7 +39,8 @@ fn after_byte_order_mark(text: &str) -> &str
 fn unclosed_escape(total: usize, text: &str) -> Option<Place>
     requires within { length text.now ≤ total }
     requires bounded { total ≤ 67108864 }
-    ensures { MatchOption result (refused.unclosed_escape total text.now ≡ None) (λ p. refused.unclosed_escape total text.now ≡ Some p.0) }
+    ensures { MatchOption result (refused.unclosed_escape total text.now ≡ None)
+        (λ p. refused.unclosed_escape total text.now ≡ Some p.0) }
 {
     let (_, inside) = quote(text)?;
     let line = line(inside);
@@ -51,8 +52,10 @@ fn unclosed_escape(total: usize, text: &str) -> Option<Place>
 fn token_at(total: usize, text: &str) -> Option<(Token<'_>, &str)>
     requires within { length text.now ≤ total }
     requires bounded { total ≤ 67108864 }
-    ensures { MatchOption result ((word : model.Word) (after : List ℕ) → model.WordAt text.now word after → ⊥)
-        (λ r. model.WordAt text.now (seen.token r.0).word r.1.now × ((seen.token r.0).place ≡ xml.place_of total text.now)) }
+    ensures { MatchOption result
+        ((word : model.Word) (after : List ℕ) → model.WordAt text.now word after → ⊥)
+        (λ r. model.WordAt text.now (seen.token r.0).word r.1.now
+        × ((seen.token r.0).place ≡ xml.place_of total text.now)) }
 {
     let (word, after) = word_at(text)?;
     let place = Place((total - text.len()) as u32);
@@ -81,7 +84,8 @@ fn tokens_at<'t, 'b>(
 
 /// Whether nothing follows the tokens, and nothing the characters.
 fn is_whole(rest: &str, text: &str, bytes: &[u8]) -> bool
-    ensures { MatchBool result (IsWhole rest.now text.now bytes.now) (IsWhole rest.now text.now bytes.now → ⊥) }
+    ensures { MatchBool result (IsWhole rest.now text.now bytes.now)
+        (IsWhole rest.now text.now bytes.now → ⊥) }
 {
     rest.is_empty() && text.len() == bytes.len()
 }

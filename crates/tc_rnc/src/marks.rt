@@ -11,7 +11,8 @@ use crate::tokens::Token;
 
 /// What follows this mark, where it stands first.
 pub fn after_mark<'s, 't>(tokens: &'s [Token<'t>], mark: char) -> Option<&'s [Token<'t>]>
-    ensures { MatchOption result (LacksMark mark (seen.tokens tokens.now)) (λ rest. BeginsWith mark (seen.tokens tokens.now) (seen.tokens rest.now)) }
+    ensures { MatchOption result (LacksMark mark (seen.tokens tokens.now))
+        (λ rest. BeginsWith mark (seen.tokens tokens.now) (seen.tokens rest.now)) }
 {
     let (first, rest) = first_of(tokens)?;
     if first.is_mark(mark) {
@@ -23,7 +24,8 @@ pub fn after_mark<'s, 't>(tokens: &'s [Token<'t>], mark: char) -> Option<&'s [To
 
 /// What follows this keyword, where it stands first.
 pub fn after_word<'s, 't>(tokens: &'s [Token<'t>], word: &str) -> Option<&'s [Token<'t>]>
-    ensures { MatchOption result (LacksWord word.now (seen.tokens tokens.now)) (λ rest. StartsWith word.now (seen.tokens tokens.now) (seen.tokens rest.now)) }
+    ensures { MatchOption result (LacksWord word.now (seen.tokens tokens.now))
+        (λ rest. StartsWith word.now (seen.tokens tokens.now) (seen.tokens rest.now)) }
 {
     let (first, rest) = first_of(tokens)?;
     if first.is_name(word) {

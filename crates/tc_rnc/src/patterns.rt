@@ -54,7 +54,8 @@ enum Begin<'t> {
 }
 
 fn connector_of(token: &Token<'_>) -> Option<Connector>
-    ensures { MatchOption result (model.connector_of (seen.word token.now.word) ≡ None) (λ c. model.connector_of (seen.word token.now.word) ≡ Some (view.connector c)) }
+    ensures { MatchOption result (model.connector_of (seen.word token.now.word) ≡ None)
+        (λ c. model.connector_of (seen.word token.now.word) ≡ Some (view.connector c)) }
 {
     if token.is_mark(',') {
         return Some(Connector::Comma);
@@ -70,7 +71,8 @@ fn connector_of(token: &Token<'_>) -> Option<Connector>
 
 /// The connector that stands first, and what follows it.
 fn connector_at<'s, 't>(tokens: &'s [Token<'t>]) -> Option<(Connector, &'s [Token<'t>])>
-    ensures { MatchOption result (model.connector_at (seen.tokens tokens.now) ≡ None) (λ r. reading.GoesOn (view.connector r.0) (seen.tokens tokens.now) (seen.tokens r.1.now)) }
+    ensures { MatchOption result (model.connector_at (seen.tokens tokens.now) ≡ None)
+        (λ r. reading.GoesOn (view.connector r.0) (seen.tokens tokens.now) (seen.tokens r.1.now)) }
 {
     let (first, rest) = first_of(tokens)?;
     let connector = connector_of(first)?;
@@ -78,7 +80,8 @@ fn connector_at<'s, 't>(tokens: &'s [Token<'t>]) -> Option<(Connector, &'s [Toke
 }
 
 fn suffix_of(token: &Token<'_>) -> Option<Suffix>
-    ensures { MatchOption result (model.suffix_of (seen.word token.now.word) ≡ None) (λ x. model.suffix_of (seen.word token.now.word) ≡ Some (view.suffix x)) }
+    ensures { MatchOption result (model.suffix_of (seen.word token.now.word) ≡ None)
+        (λ x. model.suffix_of (seen.word token.now.word) ≡ Some (view.suffix x)) }
 {
     if token.is_mark('?') {
         return Some(Suffix::QuestionMark);
@@ -94,7 +97,8 @@ fn suffix_of(token: &Token<'_>) -> Option<Suffix>
 
 /// The suffix that stands first, and what follows it.
 fn suffix_at<'s, 't>(tokens: &'s [Token<'t>]) -> Option<(Suffix, &'s [Token<'t>])>
-    ensures { MatchOption result (model.suffix_at (seen.tokens tokens.now) ≡ None) (λ r. reading.EndsWith (view.suffix r.0) (seen.tokens tokens.now) (seen.tokens r.1.now)) }
+    ensures { MatchOption result (model.suffix_at (seen.tokens tokens.now) ≡ None)
+        (λ r. reading.EndsWith (view.suffix r.0) (seen.tokens tokens.now) (seen.tokens r.1.now)) }
 {
     let (first, rest) = first_of(tokens)?;
     let suffix = suffix_of(first)?;
@@ -120,8 +124,13 @@ fn put_item<'b, 's, 't>(
     end: End,
 ) -> Result<Option<&'s [Token<'t>]>, RncFault>
     ensures items { OnOk result (all.new.items ≡ all.old.items ++ item.entry ∷ []) }
-    ensures ok { IfOk result (λ o. MatchOption o (model.connector_at (seen.tokens tokens.now) ≡ None) (λ rest. reading.GoesOn (view.connector between) (seen.tokens tokens.now) (seen.tokens rest.now))) }
-    ensures no { IfErr result (Refuses (λ r. reading.GoesOnOtherwise (view.connector between) (seen.tokens tokens.now) × Unexpected (seen.end end) (seen.tokens tokens.now) r)) }
+    ensures ok { IfOk result
+        (λ o. MatchOption o (model.connector_at (seen.tokens tokens.now) ≡ None)
+        (λ rest. reading.GoesOn (view.connector between) (seen.tokens tokens.now)
+        (seen.tokens rest.now))) }
+    ensures no { IfErr result
+        (Refuses (λ r. reading.GoesOnOtherwise (view.connector between) (seen.tokens tokens.now)
+        × Unexpected (seen.end end) (seen.tokens tokens.now) r)) }
 {
     all.push(item)?;
     let Some((connector, rest)) = connector_at(tokens) else {
@@ -141,9 +150,11 @@ pub fn opened<'s, 't>(
     end: End,
     deepest: u32,
 ) -> Result<(&'s [Token<'t>], u32), RncFault>
-    ensures ok { IfOk result (λ r. reading.BeginsWith mark (seen.tokens tokens.now) (seen.tokens r.0.now)) }
+    ensures ok { IfOk result
+        (λ r. reading.BeginsWith mark (seen.tokens tokens.now) (seen.tokens r.0.now)) }
     ensures depth { IfOk result (λ r. deepest ≡ suc r.1) }
-    ensures no { IfErr result (Refuses (parts.OpeningStops (seen.end end) mark deepest (seen.tokens tokens.now))) }
+    ensures no { IfErr result
+        (Refuses (parts.OpeningStops (seen.end end) mark deepest (seen.tokens tokens.now))) }
 {
     let Some((opening, rest)) = first_of(tokens) else {
         return Err(unexpected(tokens, end));
@@ -165,8 +176,10 @@ fn balanced_part<'s, 't>(
     deepest: u32,
 ) -> Result<&'s [Token<'t>], RncFault>
     requires { LacksMark 125 (seen.tokens tokens.now) }
-    ensures ok { IfOk result (λ r. reading.BalancedPartAt deepest (seen.tokens tokens.now) (seen.tokens r.now)) }
-    ensures no { IfErr result (Refuses (parts.BalancedPartStops (seen.end end) deepest (seen.tokens tokens.now))) }
+    ensures ok { IfOk result
+        (λ r. reading.BalancedPartAt deepest (seen.tokens tokens.now) (seen.tokens r.now)) }
+    ensures no { IfErr result
+        (Refuses (parts.BalancedPartStops (seen.end end) deepest (seen.tokens tokens.now))) }
 {
     let Some((first, rest)) = first_of(tokens) else {
         return Err(RncFault::Malformed(end.place));
@@ -187,8 +200,10 @@ fn balanced<'s, 't>(
     end: End,
     deepest: u32,
 ) -> Result<&'s [Token<'t>], RncFault>
-    ensures ok { IfOk result (λ r. model.BalancedAt deepest (seen.tokens tokens.now) (seen.tokens r.now)) }
-    ensures no { IfErr result (Refuses (stops.BalancedStops (seen.end end) deepest (seen.tokens tokens.now))) }
+    ensures ok { IfOk result
+        (λ r. model.BalancedAt deepest (seen.tokens tokens.now) (seen.tokens r.now)) }
+    ensures no { IfErr result
+        (Refuses (stops.BalancedStops (seen.end end) deepest (seen.tokens tokens.now))) }
 {
     let mut rest = tokens.split_at(0).1;
     loop {
@@ -206,8 +221,10 @@ fn braced_text<'s, 't>(
     end: End,
     deepest: u32,
 ) -> Result<&'s [Token<'t>], RncFault>
-    ensures ok { IfOk result (λ r. reading.BracedTextAt deepest (seen.tokens tokens.now) (seen.tokens r.now)) }
-    ensures no { IfErr result (Refuses (stops.BracedTextStops (seen.end end) deepest (seen.tokens tokens.now))) }
+    ensures ok { IfOk result
+        (λ r. reading.BracedTextAt deepest (seen.tokens tokens.now) (seen.tokens r.now)) }
+    ensures no { IfErr result
+        (Refuses (stops.BracedTextStops (seen.end end) deepest (seen.tokens tokens.now))) }
 {
     let (inside, deeper) = opened('{', tokens, end, deepest)?;
     balanced(inside, end, deeper)
@@ -216,7 +233,8 @@ fn braced_text<'s, 't>(
 /// The pattern with this suffix.
 #[tactic(auto, using(crate::proofs::Views::see_pattern))]
 fn suffixed<'b>(arena: &'b Bump, suffix: Suffix, inner: SPat<'b>) -> Result<SPat<'b>, RncFault>
-    ensures ok { IfOk result (λ p. seen.pattern p ≡ model.suffixed (view.suffix suffix) (seen.pattern inner.entry)) }
+    ensures ok { IfOk result
+        (λ p. seen.pattern p ≡ model.suffixed (view.suffix suffix) (seen.pattern inner.entry)) }
     ensures no { IfErr result (λ e. e ≡ NoMemory) }
 {
     let inner: &'b SPat<'b> = arena.try_alloc(inner)?;
@@ -230,7 +248,8 @@ fn suffixed<'b>(arena: &'b Bump, suffix: Suffix, inner: SPat<'b>) -> Result<SPat
 /// The pattern of several items with this connector between.
 #[tactic(auto, using(crate::proofs::Views::see_pattern))]
 fn joined<'b>(between: Connector, items: &'b [SPat<'b>]) -> SPat<'b>
-    ensures { seen.pattern result ≡ model.joined_by (view.connector between) (seen.patterns items.now) }
+    ensures { seen.pattern result
+        ≡ model.joined_by (view.connector between) (seen.patterns items.now) }
 {
     match between {
         Connector::Comma => SPat::Group(items),
@@ -281,7 +300,8 @@ fn reference<'b>(arena: &'b Bump, name: &str, place: Place) -> Result<SPat<'b>, 
 
 /// Whether a pattern would go on here, with a connector or a suffix.
 pub fn goes_on(tokens: &[Token<'_>]) -> bool
-    ensures { MatchBool result (stops.GoesOnAsPattern (seen.tokens tokens.now)) (stops.GoesOnAsPattern (seen.tokens tokens.now) → ⊥) }
+    ensures { MatchBool result (stops.GoesOnAsPattern (seen.tokens tokens.now))
+        (stops.GoesOnAsPattern (seen.tokens tokens.now) → ⊥) }
 {
     if let Some(_) = connector_at(tokens) {
         return true;
@@ -299,8 +319,13 @@ impl<'b> Parser<'b> {
         tokens: &'s [Token<'t>],
         deepest: u32,
     ) -> Result<&'s [Token<'t>], RncFault>
-        ensures ok { IfOk result (λ r. reading.LabelledAt (scope_of self.now.scope) deepest (seen.tokens tokens.now) (seen.tokens r.now)) }
-        ensures no { IfErr result (Refuses (parts.LabelledStops (seen.end self.now.end) (scope_of self.now.scope) deepest (seen.tokens tokens.now))) }
+        ensures ok { IfOk result
+            (λ r. reading.LabelledAt (scope_of self.now.scope) deepest (seen.tokens tokens.now)
+            (seen.tokens r.now)) }
+        ensures no { IfErr result
+            (Refuses
+            (parts.LabelledStops (seen.end self.now.end) (scope_of self.now.scope) deepest
+            (seen.tokens tokens.now))) }
     {
         let (_, rest) = self.name_class(tokens, deepest)?;
         braced_text(rest, self.end, deepest)
@@ -313,8 +338,13 @@ impl<'b> Parser<'b> {
         tokens: &'s [Token<'t>],
         deepest: u32,
     ) -> Result<(SPat<'b>, &'s [Token<'t>]), RncFault>
-        ensures ok { IfOk result (λ r. model.PatternAt false (scope_of self.now.scope) deepest (seen.tokens tokens.now) (seen.pattern r.0) (seen.tokens r.1.now)) }
-        ensures no { IfErr result (Refuses (stops.PatternStops (seen.end self.now.end) (scope_of self.now.scope) deepest (seen.tokens tokens.now))) }
+        ensures ok { IfOk result
+            (λ r. model.PatternAt false (scope_of self.now.scope) deepest (seen.tokens tokens.now)
+            (seen.pattern r.0) (seen.tokens r.1.now)) }
+        ensures no { IfErr result
+            (Refuses
+            (stops.PatternStops (seen.end self.now.end) (scope_of self.now.scope) deepest
+            (seen.tokens tokens.now))) }
     {
         let (first, rest) = self.particle(tokens, deepest)?;
         let Some((between, behind)) = connector_at(rest) else {
@@ -333,9 +363,14 @@ impl<'b> Parser<'b> {
         tokens: &'s [Token<'t>],
         deepest: u32,
     ) -> Result<(&'b [SPat<'b>], &'s [Token<'t>]), RncFault>
-        ensures ok { IfOk result (λ r. (ps : trees.SyntaxPatterns) × (seen.patterns r.0.now ≡ trees.more (seen.pattern first.entry) ps)
-            × model.ItemsAt false (scope_of self.now.scope) (view.connector between) deepest (seen.tokens tokens.now) ps (seen.tokens r.1.now)) }
-        ensures no { IfErr result (Refuses (stops.ItemsStop (seen.end self.now.end) (scope_of self.now.scope) (view.connector between) deepest (seen.tokens tokens.now))) }
+        ensures ok { IfOk result (λ r. (ps : trees.SyntaxPatterns)
+            × (seen.patterns r.0.now ≡ trees.more (seen.pattern first.entry) ps)
+            × model.ItemsAt false (scope_of self.now.scope) (view.connector between) deepest
+            (seen.tokens tokens.now) ps (seen.tokens r.1.now)) }
+        ensures no { IfErr result
+            (Refuses
+            (stops.ItemsStop (seen.end self.now.end) (scope_of self.now.scope)
+            (view.connector between) deepest (seen.tokens tokens.now))) }
     {
         let mut all = begun(self.arena, first)?;
         let mut rest = tokens.split_at(0).1;
@@ -355,8 +390,13 @@ impl<'b> Parser<'b> {
         tokens: &'s [Token<'t>],
         deepest: u32,
     ) -> Result<(SPat<'b>, &'s [Token<'t>]), RncFault>
-        ensures ok { IfOk result (λ r. model.ItemAt false (scope_of self.now.scope) deepest (seen.tokens tokens.now) (seen.pattern r.0) (seen.tokens r.1.now)) }
-        ensures no { IfErr result (Refuses (stops.PrimaryStops (seen.end self.now.end) (scope_of self.now.scope) deepest (seen.tokens tokens.now))) }
+        ensures ok { IfOk result
+            (λ r. model.ItemAt false (scope_of self.now.scope) deepest (seen.tokens tokens.now)
+            (seen.pattern r.0) (seen.tokens r.1.now)) }
+        ensures no { IfErr result
+            (Refuses
+            (stops.PrimaryStops (seen.end self.now.end) (scope_of self.now.scope) deepest
+            (seen.tokens tokens.now))) }
     {
         let (inner, rest) = self.primary(tokens, deepest)?;
         let Some((suffix, after)) = suffix_at(rest) else {
@@ -375,8 +415,13 @@ impl<'b> Parser<'b> {
         tokens: &'s [Token<'t>],
         deepest: u32,
     ) -> Result<(SPat<'b>, &'s [Token<'t>]), RncFault>
-        ensures ok { IfOk result (λ r. reading.EnclosedAt false (scope_of self.now.scope) left right deepest (seen.tokens tokens.now) (seen.pattern r.0) (seen.tokens r.1.now)) }
-        ensures no { IfErr result (Refuses (stops.EnclosedStops (seen.end self.now.end) (scope_of self.now.scope) left right deepest (seen.tokens tokens.now))) }
+        ensures ok { IfOk result
+            (λ r. reading.EnclosedAt false (scope_of self.now.scope) left right deepest
+            (seen.tokens tokens.now) (seen.pattern r.0) (seen.tokens r.1.now)) }
+        ensures no { IfErr result
+            (Refuses
+            (stops.EnclosedStops (seen.end self.now.end)
+            (scope_of self.now.scope) left right deepest (seen.tokens tokens.now))) }
     {
         let (inside, deeper) = opened(left, tokens, self.end, deepest)?;
         let (inner, closing) = self.pattern(inside, deeper)?;
@@ -394,9 +439,14 @@ impl<'b> Parser<'b> {
         tokens: &'s [Token<'t>],
         deepest: u32,
     ) -> Result<(SPat<'b>, &'s [Token<'t>]), RncFault>
-        ensures ok { IfOk result (λ r. (c : trees.SyntaxClass) × (p : trees.SyntaxPattern) × (seen.pattern r.0 ≡ trees.element (seen_place place) c p)
-            × reading.NamedAt false (scope_of self.now.scope) deepest (seen.tokens tokens.now) c p (seen.tokens r.1.now)) }
-        ensures no { IfErr result (Refuses (parts.NamedStops (seen.end self.now.end) (scope_of self.now.scope) deepest (seen.tokens tokens.now))) }
+        ensures ok { IfOk result (λ r. (c : trees.SyntaxClass) × (p : trees.SyntaxPattern)
+            × (seen.pattern r.0 ≡ trees.element (seen_place place) c p)
+            × reading.NamedAt false (scope_of self.now.scope) deepest (seen.tokens tokens.now) c p
+            (seen.tokens r.1.now)) }
+        ensures no { IfErr result
+            (Refuses
+            (parts.NamedStops (seen.end self.now.end) (scope_of self.now.scope) deepest
+            (seen.tokens tokens.now))) }
     {
         let (names, brace) = self.name_class(tokens, deepest)?;
         let (content, after) = self.enclosed('{', '}', brace, deepest)?;
@@ -411,9 +461,14 @@ impl<'b> Parser<'b> {
         tokens: &'s [Token<'t>],
         deepest: u32,
     ) -> Result<(SPat<'b>, &'s [Token<'t>]), RncFault>
-        ensures ok { IfOk result (λ r. (p : trees.SyntaxPattern) × (seen.pattern r.0 ≡ trees.mixed p)
-            × reading.EnclosedAt false (scope_of self.now.scope) 123 125 deepest (seen.tokens tokens.now) p (seen.tokens r.1.now)) }
-        ensures no { IfErr result (Refuses (stops.EnclosedStops (seen.end self.now.end) (scope_of self.now.scope) 123 125 deepest (seen.tokens tokens.now))) }
+        ensures ok { IfOk result
+            (λ r. (p : trees.SyntaxPattern) × (seen.pattern r.0 ≡ trees.mixed p)
+            × reading.EnclosedAt false (scope_of self.now.scope) 123 125 deepest
+            (seen.tokens tokens.now) p (seen.tokens r.1.now)) }
+        ensures no { IfErr result
+            (Refuses
+            (stops.EnclosedStops (seen.end self.now.end) (scope_of self.now.scope) 123 125 deepest
+            (seen.tokens tokens.now))) }
     {
         let (content, after) = self.enclosed('{', '}', tokens, deepest)?;
         let content: &'b SPat<'b> = self.arena.try_alloc(content)?;
@@ -427,8 +482,13 @@ impl<'b> Parser<'b> {
         tokens: &'s [Token<'t>],
         deepest: u32,
     ) -> Result<(SPat<'b>, &'s [Token<'t>]), RncFault>
-        ensures ok { IfOk result (λ r. model.PrimaryAt false (scope_of self.now.scope) deepest (seen.tokens tokens.now) (seen.pattern r.0) (seen.tokens r.1.now)) }
-        ensures no { IfErr result (Refuses (stops.PrimaryStops (seen.end self.now.end) (scope_of self.now.scope) deepest (seen.tokens tokens.now))) }
+        ensures ok { IfOk result
+            (λ r. model.PrimaryAt false (scope_of self.now.scope) deepest (seen.tokens tokens.now)
+            (seen.pattern r.0) (seen.tokens r.1.now)) }
+        ensures no { IfErr result
+            (Refuses
+            (stops.PrimaryStops (seen.end self.now.end) (scope_of self.now.scope) deepest
+            (seen.tokens tokens.now))) }
     {
         let Some((first, rest)) = first_of(tokens) else {
             return Err(unexpected(tokens, self.end));

@@ -28,7 +28,8 @@ const DEEPEST: u32 = 2000;
 
 /// Whether the tokens begin with definitions and not with a pattern, as far as one can tell.
 fn is_definitions(tokens: &[Token<'_>]) -> bool
-    ensures { MatchBool result (stops.BeginsDefinitions (seen.tokens tokens.now)) (schemas.LacksDefinitions (seen.tokens tokens.now)) }
+    ensures { MatchBool result (stops.BeginsDefinitions (seen.tokens tokens.now))
+        (schemas.LacksDefinitions (seen.tokens tokens.now)) }
 {
     let Some((first, rest)) = first_of(tokens) else {
         return true;
@@ -54,7 +55,8 @@ fn is_definitions(tokens: &[Token<'_>]) -> bool
 /// The word `grammar` that stands first, and what follows it.
 fn grammar_at<'s, 't>(tokens: &'s [Token<'t>]) -> Option<(&'s Token<'t>, &'s [Token<'t>])>
     ensures { MatchOption result (stops.LacksWord (codes "grammar") (seen.tokens tokens.now))
-        (λ r. (seen.tokens tokens.now ≡ seen.token r.0.now ∷ seen.tokens r.1.now) × names.IsWord (codes "grammar") (seen.token r.0.now)) }
+        (λ r. (seen.tokens tokens.now ≡ seen.token r.0.now ∷ seen.tokens r.1.now)
+        × names.IsWord (codes "grammar") (seen.token r.0.now)) }
 {
     let (first, rest) = first_of(tokens)?;
     if first.is_name("grammar") {
@@ -66,7 +68,8 @@ fn grammar_at<'s, 't>(tokens: &'s [Token<'t>]) -> Option<(&'s Token<'t>, &'s [To
 
 /// The definition of `start` by a pattern that is the whole schema.
 fn start_alone<'b>(arena: &'b Bump, body: SPat<'b>) -> Result<&'b [Def<'b>], RncFault>
-    ensures ok { IfOk result (λ r. map seen.definition r.now ≡ model.one_definition [] trees.plain (seen.pattern body.entry) 0) }
+    ensures ok { IfOk result (λ r. map seen.definition r.now
+        ≡ model.one_definition [] trees.plain (seen.pattern body.entry) 0) }
     ensures no { IfErr result (λ e. e ≡ NoMemory) }
 {
     let defs: &'b [Def<'b>] = arena.try_alloc_slice_copy(&[Def {
@@ -84,8 +87,13 @@ impl<'b> Parser<'b> {
         requires declared { schemas.LacksDeclaration (seen.tokens tokens.now) }
         requires alone { stops.LacksWord (codes "grammar") (seen.tokens tokens.now) }
         requires undefined { schemas.LacksDefinitions (seen.tokens tokens.now) }
-        ensures ok { IfOk result (λ r. model.SchemaAt false (scope_of self.now.scope) 2000 (seen.tokens tokens.now) (map seen.definition r.now)) }
-        ensures no { IfErr result (Refuses (stops.SchemaStops (seen.end self.now.end) (scope_of self.now.scope) 2000 (seen.tokens tokens.now))) }
+        ensures ok { IfOk result
+            (λ r. model.SchemaAt false (scope_of self.now.scope) 2000 (seen.tokens tokens.now)
+            (map seen.definition r.now)) }
+        ensures no { IfErr result
+            (Refuses
+            (stops.SchemaStops (seen.end self.now.end) (scope_of self.now.scope) 2000
+            (seen.tokens tokens.now))) }
     {
         let (body, rest) = self.pattern(tokens, DEEPEST)?;
         if let Some(_) = first_of(rest) {
@@ -97,8 +105,13 @@ impl<'b> Parser<'b> {
     /// Reads definitions, up to the end.
     fn whole_definitions<'s, 't>(&self, tokens: &'s [Token<'t>]) -> Result<&'b [Def<'b>], RncFault>
         requires { stops.BeginsDefinitions (seen.tokens tokens.now) }
-        ensures ok { IfOk result (λ r. model.SchemaAt false (scope_of self.now.scope) 2000 (seen.tokens tokens.now) (map seen.definition r.now)) }
-        ensures no { IfErr result (Refuses (stops.SchemaStops (seen.end self.now.end) (scope_of self.now.scope) 2000 (seen.tokens tokens.now))) }
+        ensures ok { IfOk result
+            (λ r. model.SchemaAt false (scope_of self.now.scope) 2000 (seen.tokens tokens.now)
+            (map seen.definition r.now)) }
+        ensures no { IfErr result
+            (Refuses
+            (stops.SchemaStops (seen.end self.now.end) (scope_of self.now.scope) 2000
+            (seen.tokens tokens.now))) }
     {
         let mut defs = Vec::new(self.arena);
         let rest = self.definitions(&mut defs, tokens, DEEPEST)?;
@@ -115,8 +128,13 @@ impl<'b> Parser<'b> {
         rest: &'s [Token<'t>],
     ) -> Result<&'b [Def<'b>], RncFault>
         requires { names.IsWord (codes "grammar") (seen.token word.now) }
-        ensures ok { IfOk result (λ r. model.SchemaAt false (scope_of self.now.scope) 2000 (seen.token word.now ∷ seen.tokens rest.now) (map seen.definition r.now)) }
-        ensures no { IfErr result (Refuses (stops.SchemaStops (seen.end self.now.end) (scope_of self.now.scope) 2000 (seen.token word.now ∷ seen.tokens rest.now))) }
+        ensures ok { IfOk result
+            (λ r. model.SchemaAt false (scope_of self.now.scope) 2000
+            (seen.token word.now ∷ seen.tokens rest.now) (map seen.definition r.now)) }
+        ensures no { IfErr result
+            (Refuses
+            (stops.SchemaStops (seen.end self.now.end) (scope_of self.now.scope) 2000
+            (seen.token word.now ∷ seen.tokens rest.now))) }
     {
         let mut defs = Vec::new(self.arena);
         let after = self.braced_definitions(&mut defs, rest, DEEPEST)?;
@@ -132,8 +150,13 @@ impl<'b> Parser<'b> {
     /// Reads what follows the declarations.
     fn top_level_body<'s, 't>(&self, tokens: &'s [Token<'t>]) -> Result<&'b [Def<'b>], RncFault>
         requires { schemas.LacksDeclaration (seen.tokens tokens.now) }
-        ensures ok { IfOk result (λ r. model.SchemaAt false (scope_of self.now.scope) 2000 (seen.tokens tokens.now) (map seen.definition r.now)) }
-        ensures no { IfErr result (Refuses (stops.SchemaStops (seen.end self.now.end) (scope_of self.now.scope) 2000 (seen.tokens tokens.now))) }
+        ensures ok { IfOk result
+            (λ r. model.SchemaAt false (scope_of self.now.scope) 2000 (seen.tokens tokens.now)
+            (map seen.definition r.now)) }
+        ensures no { IfErr result
+            (Refuses
+            (stops.SchemaStops (seen.end self.now.end) (scope_of self.now.scope) 2000
+            (seen.tokens tokens.now))) }
     {
         if let Some((word, rest)) = grammar_at(tokens) {
             return self.whole_grammar(word, rest);
@@ -151,8 +174,11 @@ pub fn top_level<'b, 's, 't>(
     tokens: &'s [Token<'t>],
     end: End,
 ) -> Result<&'b [Def<'b>], RncFault>
-    ensures ok { IfOk result (λ r. model.SchemaAt false first_scope 2000 (seen.tokens tokens.now) (map seen.definition r.now)) }
-    ensures no { IfErr result (Refuses (stops.SchemaStops (seen.end end) first_scope 2000 (seen.tokens tokens.now))) }
+    ensures ok { IfOk result
+        (λ r. model.SchemaAt false first_scope 2000 (seen.tokens tokens.now)
+        (map seen.definition r.now)) }
+    ensures no { IfErr result
+        (Refuses (stops.SchemaStops (seen.end end) first_scope 2000 (seen.tokens tokens.now))) }
 {
     let mut scope = Scope::first(arena)?;
     let rest = declarations(arena, &mut scope, tokens, end)?;

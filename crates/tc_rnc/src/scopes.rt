@@ -42,14 +42,16 @@ impl<'b> Scope<'b> {
 
     /// The namespace name to which a prefix is bound.
     pub fn uri_of(&self, prefix: &str) -> Option<&'b str>
-        ensures { MatchOption result (xml.uri_of (scope_of self.now) prefix.now ≡ None) (λ uri. xml.uri_of (scope_of self.now) prefix.now ≡ Some uri.now) }
+        ensures { MatchOption result (xml.uri_of (scope_of self.now) prefix.now ≡ None)
+            (λ uri. xml.uri_of (scope_of self.now) prefix.now ≡ Some uri.now) }
     {
         self.uris.get(prefix).copied()
     }
 
     /// Binds a prefix to a namespace name.
     pub fn bind(&mut self, arena: &'b Bump, prefix: &str, uri: &str) -> Result<(), RncFault>
-        ensures ok { OnOk result (scope_of self.new ≡ names.bound_to prefix.now uri.now ∷ scope_of self.old) }
+        ensures ok { OnOk result
+            (scope_of self.new ≡ names.bound_to prefix.now uri.now ∷ scope_of self.old) }
         ensures no { IfErr result (λ e. e ≡ NoMemory) }
     {
         let prefix: &'b str = arena.try_alloc_str(prefix)?;

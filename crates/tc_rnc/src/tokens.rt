@@ -78,7 +78,8 @@ impl<'t> Token<'t> {
     ghost use Rattle.tc_rnc.specs.Views as seen;
 
     pub fn is_mark(&self, mark: char) -> bool
-        ensures { MatchBool result (names.IsMark mark (seen.token self.now)) (names.IsMark mark (seen.token self.now) → ⊥) }
+        ensures { MatchBool result (names.IsMark mark (seen.token self.now))
+            (names.IsMark mark (seen.token self.now) → ⊥) }
     {
         match self.word {
             Word::Mark(c) => c == mark,
@@ -87,7 +88,8 @@ impl<'t> Token<'t> {
     }
 
     pub fn is_name(&self, name: &str) -> bool
-        ensures { MatchBool result (names.IsWord name.now (seen.token self.now)) (names.IsWord name.now (seen.token self.now) → ⊥) }
+        ensures { MatchBool result (names.IsWord name.now (seen.token self.now))
+            (names.IsWord name.now (seen.token self.now) → ⊥) }
     {
         match self.word {
             Word::Name(n) => n == name,
@@ -107,7 +109,8 @@ impl<'t> Token<'t> {
 
     /// How many quotes open a literal, and its text.
     pub fn quoted(&self) -> Option<(u32, &'t str)>
-        ensures text { MatchOption result (quoted_text (seen.word self.now.word) ≡ None) (λ r. quoted_text (seen.word self.now.word) ≡ Some (r.0, r.1.now)) }
+        ensures text { MatchOption result (quoted_text (seen.word self.now.word) ≡ None)
+            (λ r. quoted_text (seen.word self.now.word) ≡ Some (r.0, r.1.now)) }
         ensures within { IfSome result (λ r. self.now.place.0 + r.0 + length r.1.now ≤ 67108864) }
     {
         match self.word {
@@ -119,7 +122,8 @@ impl<'t> Token<'t> {
 
     /// The text of a literal in single quotes.
     pub fn literal(&self) -> Option<&'t str>
-        ensures { MatchOption result ((s : List ℕ) → seen.word self.now.word ≡ model.literal s → ⊥) (λ s. seen.word self.now.word ≡ model.literal s.now) }
+        ensures { MatchOption result ((s : List ℕ) → seen.word self.now.word ≡ model.literal s → ⊥)
+            (λ s. seen.word self.now.word ≡ model.literal s.now) }
     {
         match self.word {
             Word::Literal(value) => Some(value),
@@ -129,7 +133,8 @@ impl<'t> Token<'t> {
 
     /// Whether this token begins so many bytes after that one.
     pub fn follows(&self, token: &Token<'_>, bytes: u32) -> bool
-        ensures { MatchBool result (self.now.place.0 ≡ token.now.place.0 + bytes) (self.now.place.0 ≡ token.now.place.0 + bytes → ⊥) }
+        ensures { MatchBool result (self.now.place.0 ≡ token.now.place.0 + bytes)
+            (self.now.place.0 ≡ token.now.place.0 + bytes → ⊥) }
     {
         match self.place.0.checked_sub(token.place.0) {
             Some(between) => between == bytes,
@@ -139,7 +144,8 @@ impl<'t> Token<'t> {
 
     /// The name that is an identifier.
     pub fn identifier(&self) -> Option<&'t str>
-        ensures { MatchOption result (names.identifier (seen.word self.now.word) ≡ None) (λ n. names.identifier (seen.word self.now.word) ≡ Some n.now) }
+        ensures { MatchOption result (names.identifier (seen.word self.now.word) ≡ None)
+            (λ n. names.identifier (seen.word self.now.word) ≡ Some n.now) }
     {
         match self.word {
             Word::Name(n) if !is_keyword(n) => Some(n),
@@ -150,7 +156,8 @@ impl<'t> Token<'t> {
 
     /// The name that is an identifier or a keyword.
     pub fn identifier_or_keyword(&self) -> Option<&'t str>
-        ensures { MatchOption result (names.identifier_or_keyword (seen.word self.now.word) ≡ None) (λ n. names.identifier_or_keyword (seen.word self.now.word) ≡ Some n.now) }
+        ensures { MatchOption result (names.identifier_or_keyword (seen.word self.now.word) ≡ None)
+            (λ n. names.identifier_or_keyword (seen.word self.now.word) ≡ Some n.now) }
     {
         match self.word {
             Word::Name(n) | Word::Escaped(n) => Some(n),

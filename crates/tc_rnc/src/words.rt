@@ -14,7 +14,8 @@ use tc_scan::{after_byte, after_mark, begins, first_char, ncname, up_to};
 
 /// A literal in single quotes at the front, and what follows it.
 fn literal(text: &str) -> Option<(&str, &str)>
-    ensures { MatchOption result ((value after : List ℕ) → xml.LiteralAt text.now value after → ⊥) (λ r. xml.LiteralAt text.now r.0.now r.1.now) }
+    ensures { MatchOption result ((value after : List ℕ) → xml.LiteralAt text.now value after → ⊥)
+        (λ r. xml.LiteralAt text.now r.0.now r.1.now) }
 {
     if let Some(rest) = after_byte(text, b'"') {
         return up_to(rest, "\"");
@@ -32,7 +33,9 @@ fn is_on_one_line(text: &str) -> bool
 
 /// A literal on one line at the front, and what follows it.
 fn quoted(text: &str) -> Option<(&str, &str)>
-    ensures { MatchOption result ((value after : List ℕ) → xml.LiteralAt text.now value after → IsTrue (list_all is_in_line value) → ⊥)
+    ensures { MatchOption result
+        ((value after : List ℕ) → xml.LiteralAt text.now value after
+        → IsTrue (list_all is_in_line value) → ⊥)
         (λ r. xml.LiteralAt text.now r.0.now r.1.now × IsTrue (list_all is_in_line r.0.now)) }
 {
     let (value, after) = literal(text)?;
@@ -48,7 +51,8 @@ pub fn up_to_or_all<'t>(text: &'t str, mark: &str) -> (&'t str, &'t str)
     requires some { 0 < length mark.now }
     requires ascii { slice_index mark.now 0 < 128 }
     ensures front { result.0.now ≡ take (xml.length_before mark.now text.now) text.now }
-    ensures back { result.1.now ≡ drop (length mark.now) (drop (xml.length_before mark.now text.now) text.now) }
+    ensures back { result.1.now
+        ≡ drop (length mark.now) (drop (xml.length_before mark.now text.now) text.now) }
 {
     match up_to(text, mark) {
         Some(parts) => parts,
@@ -58,7 +62,9 @@ pub fn up_to_or_all<'t>(text: &'t str, mark: &str) -> (&'t str, &'t str)
 
 /// A literal in three quotes at the front, and what follows it.
 fn long_literal(text: &str) -> Option<(&str, &str)>
-    ensures { MatchOption result ((value after : List ℕ) → model.LongLiteralAt text.now value after → ⊥) (λ r. model.LongLiteralAt text.now r.0.now r.1.now) }
+    ensures { MatchOption result
+        ((value after : List ℕ) → model.LongLiteralAt text.now value after → ⊥)
+        (λ r. model.LongLiteralAt text.now r.0.now r.1.now) }
 {
     if let Some(rest) = after_mark(text, "\"\"\"") {
         return Some(up_to_or_all(rest, "\"\"\""));
@@ -69,7 +75,8 @@ fn long_literal(text: &str) -> Option<(&str, &str)>
 
 /// A backslash and a name at the front, and what follows them. Directly before a brace, a backslash and `x` are none.
 fn escaped(text: &str) -> Option<(&str, &str)>
-    ensures { MatchOption result ((name after : List ℕ) → model.EscapedAt text.now name after → ⊥) (λ r. model.EscapedAt text.now r.0.now r.1.now) }
+    ensures { MatchOption result ((name after : List ℕ) → model.EscapedAt text.now name after → ⊥)
+        (λ r. model.EscapedAt text.now r.0.now r.1.now) }
 {
     let rest = after_byte(text, b'\\')?;
     let (name, after) = ncname(rest)?;
@@ -120,7 +127,8 @@ fn is_mark(c: char) -> bool
 /// A character that stands for itself at the front, and what follows it.
 fn marked(text: &str) -> Option<(Word<'_>, &str)>
     requires { (name after : List ℕ) → model.EscapedAt text.now name after → ⊥ }
-    ensures { MatchOption result (IsNoMark text.now) (λ r. model.WordAt text.now (seen.word r.0) r.1.now) }
+    ensures { MatchOption result (IsNoMark text.now)
+        (λ r. model.WordAt text.now (seen.word r.0) r.1.now) }
 {
     if let Some(rest) = after_byte(text, b'\\') {
         return Some((Word::Mark('\\'), rest));
@@ -135,7 +143,9 @@ fn marked(text: &str) -> Option<(Word<'_>, &str)>
 
 /// The word at the front, as long as it goes, and what follows it.
 pub fn word_at(text: &str) -> Option<(Word<'_>, &str)>
-    ensures { MatchOption result ((word : model.Word) (after : List ℕ) → model.WordAt text.now word after → ⊥) (λ r. model.WordAt text.now (seen.word r.0) r.1.now) }
+    ensures { MatchOption result
+        ((word : model.Word) (after : List ℕ) → model.WordAt text.now word after → ⊥)
+        (λ r. model.WordAt text.now (seen.word r.0) r.1.now) }
 {
     if let Some((name, rest)) = ncname(text) {
         return Some(named(text, name, rest));

@@ -86,8 +86,11 @@ pub(crate) fn root<'b>(
     requires string { string.now ≡ c.joined_texts (l.bare (trees nodes.now)) }
     requires work { output.old.work ≤ 4000000 }
     ensures few { OnOk result (output.new.work ≤ 4000000) }
-    ensures outcome { (bodies : List CallFreeBody) → HasBodies runner.now bodies → Answers 0 output.old output.new result
-        (counted (does_at (machine runner.now bodies) ((machine runner.now bodies).root_body (in_mode 0)) (c.top (l.bare (trees nodes.now))))) }
+    ensures outcome { (bodies : List CallFreeBody) → HasBodies runner.now bodies
+        → Answers 0 output.old output.new result
+        (counted
+        (does_at (machine runner.now bodies) ((machine runner.now bodies).root_body (in_mode 0))
+        (c.top (l.bare (trees nodes.now))))) }
 {
     let here = Context {
         shape: Shape::Root,
@@ -109,7 +112,8 @@ fn template_of<'b>(runner: &Runner<'_, 'b>, mode: u32, found: Found) -> Template
     requires mode { mode < (sheet_by runner.now).modes }
     requires found { IfSome (found_of found) (λ i. i < length (sheet_by runner.now).rules) }
     ensures part { IsPartTemplate (sheet_by runner.now) result }
-    ensures meant { (bodies : List CallFreeBody) (n : c.Node) (o : Option Chosen) → HasBodies runner.now bodies → option_map (λ w. w.number) o ≡ found_of found →
+    ensures meant { (bodies : List CallFreeBody) (n : c.Node) (o : Option Chosen)
+        → HasBodies runner.now bodies → option_map (λ w. w.number) o ≡ found_of found →
         IsMeantBy (sheet_by runner.now).named n result (plain_of bodies (built_in_of mode n) o) }
 {
     match found {
@@ -131,12 +135,17 @@ fn template_for<'b>(
     requires known { AreFoundBy runner.now known.old }
     requires job { IsJob (sheet_by runner.now) job }
     requires above { above < length (told_by runner.now).ancestors.states }
-    requires letter { letters.IsLetter (symbols_by runner.now) (predicates_by runner.now) (see_letter kind marks) }
+    requires letter { letters.IsLetter (symbols_by runner.now) (predicates_by runner.now)
+        (see_letter kind marks) }
     ensures known { AreFoundBy runner.now known.new }
     ensures part { IsPartTemplate (sheet_by runner.now) result }
-    ensures meant { (bodies : List CallFreeBody) (n : c.Node) (k : CallFreeJob) → HasBodies runner.now bodies → IsTaskOf (sheet_by runner.now) (mode_of (sheet_by runner.now).modes job) k →
+    ensures meant { (bodies : List CallFreeBody) (n : c.Node) (k : CallFreeJob)
+        → HasBodies runner.now bodies
+        → IsTaskOf (sheet_by runner.now) (mode_of (sheet_by runner.now).modes job) k →
         ((m : ℕ) → built_in_at m (see_letter kind marks).kind ≡ built_in_of m n) →
-        IsMeantBy (sheet_by runner.now).named n result ((machine runner.now bodies).body_at k (ancestor (told_by runner.now) above) (see_letter kind marks)) }
+        IsMeantBy (sheet_by runner.now).named n result
+        ((machine runner.now bodies).body_at k (ancestor (told_by runner.now) above)
+        (see_letter kind marks)) }
 {
     match job {
         Job::Each(number) => Template::Body(runner.rules.each_body(number)),
@@ -165,7 +174,9 @@ fn instantiate<'b>(
     requires known { AreFoundBy runner.now known.old }
     ensures few { OnOk result (output.new.work ≤ 4000000) }
     ensures known { AreFoundBy runner.now known.new }
-    ensures outcome { (bodies : List CallFreeBody) (p : CallFreeBody) → HasBodies runner.now bodies → IsMeantBy (sheet_by runner.now).named (node here.now) meant.entry p → Answers nesting output.old output.new result
+    ensures outcome { (bodies : List CallFreeBody) (p : CallFreeBody) → HasBodies runner.now bodies
+        → IsMeantBy (sheet_by runner.now).named (node here.now) meant.entry p
+        → Answers nesting output.old output.new result
         (counted (does runner.now bodies p here.now)) }
 {
     let nesting = deeper(nesting)?;
@@ -194,7 +205,8 @@ fn built_in<'b>(
     requires known { AreFoundBy runner.now known.old }
     ensures few { OnOk result (output.new.work ≤ 4000000) }
     ensures known { AreFoundBy runner.now known.new }
-    ensures outcome { (bodies : List CallFreeBody) → HasBodies runner.now bodies → Answers nesting output.old output.new result
+    ensures outcome { (bodies : List CallFreeBody) → HasBodies runner.now bodies
+        → Answers nesting output.old output.new result
         (does runner.now bodies (built_in_of mode (node here.now)) here.now) }
 {
     let nesting = deeper(nesting)?;
@@ -225,7 +237,9 @@ fn body<'b>(
     requires known { AreFoundBy runner.now known.old }
     ensures few { OnOk result (output.new.work ≤ 4000000) }
     ensures known { AreFoundBy runner.now known.new }
-    ensures outcome { (bodies : List CallFreeBody) (p : CallFreeBody) → HasBodies runner.now bodies → Inlines (sheet_by runner.now).named (see.body body.now) p → Answers nesting output.old output.new result
+    ensures outcome { (bodies : List CallFreeBody) (p : CallFreeBody) → HasBodies runner.now bodies
+        → Inlines (sheet_by runner.now).named (see.body body.now) p
+        → Answers nesting output.old output.new result
         (does runner.now bodies p here.now) }
 {
     for one in body {
@@ -252,7 +266,9 @@ fn instruction<'b>(
     requires known { AreFoundBy runner.now known.old }
     ensures few { OnOk result (output.new.work ≤ 4000000) }
     ensures known { AreFoundBy runner.now known.new }
-    ensures outcome { (bodies : List CallFreeBody) (p : CallFreeBody) → HasBodies runner.now bodies → Inlines (sheet_by runner.now).named (see.instruction instruction.now no_instruction) p → Answers nesting output.old output.new result
+    ensures outcome { (bodies : List CallFreeBody) (p : CallFreeBody) → HasBodies runner.now bodies
+        → Inlines (sheet_by runner.now).named (see.instruction instruction.now no_instruction) p
+        → Answers nesting output.old output.new result
         (does runner.now bodies p here.now) }
 {
     let nesting = deeper(nesting)?;
@@ -309,7 +325,9 @@ fn put_element<'b>(
     requires known { AreFoundBy runner.now known.old }
     ensures few { OnOk result (output.new.work ≤ 4000000) }
     ensures known { AreFoundBy runner.now known.new }
-    ensures outcome { (bodies : List CallFreeBody) (p : CallFreeBody) → HasBodies runner.now bodies → Inlines (sheet_by runner.now).named (see.body inner.now) p → Answers nesting output.old output.new result
+    ensures outcome { (bodies : List CallFreeBody) (p : CallFreeBody) → HasBodies runner.now bodies
+        → Inlines (sheet_by runner.now).named (see.body inner.now) p
+        → Answers nesting output.old output.new result
         (put_around (see.name name.entry) (does runner.now bodies p here.now)) }
 {
     let before = output.enter()?;
@@ -335,7 +353,9 @@ fn copy<'b>(
     requires known { AreFoundBy runner.now known.old }
     ensures few { OnOk result (output.new.work ≤ 4000000) }
     ensures known { AreFoundBy runner.now known.new }
-    ensures outcome { (bodies : List CallFreeBody) (p : CallFreeBody) → HasBodies runner.now bodies → Inlines (sheet_by runner.now).named (see.body inner.now) p → Answers nesting output.old output.new result
+    ensures outcome { (bodies : List CallFreeBody) (p : CallFreeBody) → HasBodies runner.now bodies
+        → Inlines (sheet_by runner.now).named (see.body inner.now) p
+        → Answers nesting output.old output.new result
         (copied (node here.now) (does runner.now bodies p here.now)) }
 {
     match here.shape {
@@ -350,7 +370,10 @@ fn value<'b>(runner: &Runner<'_, 'b>, path: &Path<'_>, here: &Context<'b>) -> &'
     requires runner { IsRunner runner.now }
     requires here { IsContext runner.now here.now }
     requires path { Contains (looks_of (sheet_by runner.now)) (see.path path.now) }
-    ensures { result.now ≡ value_of_first (first_hit_of (looking runner.now) (l.bare (trees here.now.kids.now)) (looking_from (see.path path.now))) }
+    ensures { result.now
+        ≡ value_of_first
+        (first_hit_of (looking runner.now) (l.bare (trees here.now.kids.now))
+        (looking_from (see.path path.now))) }
 {
     match runner.rules.look_first(path) {
         None => "",
@@ -367,11 +390,16 @@ fn chosen_branch<'b>(
 ) -> &'b [Instr<'b>]
     requires runner { IsRunner runner.now }
     requires here { IsContext runner.now here.now }
-    requires part { ArePartBranches (sheet_by runner.now) (see.branches branches.now (otherwise (see.body last.now))) }
+    requires part { ArePartBranches (sheet_by runner.now)
+        (see.branches branches.now (otherwise (see.body last.now))) }
     ensures part { IsPart (sheet_by runner.now) (see.body result.now) }
-    ensures chosen { (x : CallFreeBranches) → BranchesInline (sheet_by runner.now).named (see.branches branches.now (otherwise (see.body last.now))) x →
+    ensures chosen { (x : CallFreeBranches)
+        → BranchesInline (sheet_by runner.now).named
+        (see.branches branches.now (otherwise (see.body last.now))) x →
         (p : CallFreeBody) × Inlines (sheet_by runner.now).named (see.body result.now) p
-        × ((bodies : List CallFreeBody) (outs : CallFreeJob → Going → Outcome) → takes_in (machine runner.now bodies) x (node here.now) outs ≡ does_in (machine runner.now bodies) p (node here.now) outs) }
+        × ((bodies : List CallFreeBody) (outs : CallFreeJob → Going → Outcome)
+        → takes_in (machine runner.now bodies) x (node here.now) outs
+        ≡ does_in (machine runner.now bodies) p (node here.now) outs) }
 {
     for branch in branches {
         if holds(runner, &branch.test, here.kids) {
@@ -394,14 +422,18 @@ fn selected<'b>(
 ) -> Result<(), RunFault>
     requires runner { IsRunner runner.now }
     requires here { IsContext runner.now here.now }
-    requires path { Contains (moves_of (sheet_by runner.now)) (record { path = see.path path.now; mode = mode_of (sheet_by runner.now).modes job }) }
+    requires path { Contains (moves_of (sheet_by runner.now))
+        (record { path = see.path path.now; mode = mode_of (sheet_by runner.now).modes job }) }
     requires nesting { nesting ≤ 8000 }
     requires work { output.old.work ≤ 4000000 }
     requires known { AreFoundBy runner.now known.old }
     ensures few { OnOk result (output.new.work ≤ 4000000) }
     ensures known { AreFoundBy runner.now known.new }
-    ensures outcome { (bodies : List CallFreeBody) (k : CallFreeJob) → HasBodies runner.now bodies → IsTaskOf (sheet_by runner.now) (mode_of (sheet_by runner.now).modes job) k → Answers nesting output.old output.new result
-        (outputs_on runner.now bodies (c.children (node here.now)) here.now.above (going_from k (see.path path.now))) }
+    ensures outcome { (bodies : List CallFreeBody) (k : CallFreeJob) → HasBodies runner.now bodies
+        → IsTaskOf (sheet_by runner.now) (mode_of (sheet_by runner.now).modes job) k
+        → Answers nesting output.old output.new result
+        (outputs_on runner.now bodies (c.children (node here.now)) here.now.above
+        (going_from k (see.path path.now))) }
 {
     match runner.rules.move_first(path, job) {
         None => Ok(()),
@@ -429,7 +461,8 @@ fn apply_to_trees<'b>(
     requires known { AreFoundBy runner.now known.old }
     ensures few { OnOk result (output.new.work ≤ 4000000) }
     ensures known { AreFoundBy runner.now known.new }
-    ensures outcome { (bodies : List CallFreeBody) (g : Going) → HasBodies runner.now bodies → IsMoveAt (told_by runner.now) state g → Answers nesting output.old output.new result
+    ensures outcome { (bodies : List CallFreeBody) (g : Going) → HasBodies runner.now bodies
+        → IsMoveAt (told_by runner.now) state g → Answers nesting output.old output.new result
         (outputs_on runner.now bodies (l.bare (trees nodes.now)) above g) }
 {
     for node in nodes {
@@ -458,7 +491,8 @@ fn apply_to_tree<'b>(
     requires known { AreFoundBy runner.now known.old }
     ensures few { OnOk result (output.new.work ≤ 4000000) }
     ensures known { AreFoundBy runner.now known.new }
-    ensures outcome { (bodies : List CallFreeBody) (g : Going) → HasBodies runner.now bodies → IsMoveAt (told_by runner.now) state g → Answers nesting output.old output.new result
+    ensures outcome { (bodies : List CallFreeBody) (g : Going) → HasBodies runner.now bodies
+        → IsMoveAt (told_by runner.now) state g → Answers nesting output.old output.new result
         (outputs_on runner.now bodies (l.bare (before node.now l.none)) above g) }
 {
     match node {
@@ -496,7 +530,8 @@ fn apply_to_text<'b>(
     known: &mut KnownRules,
 ) -> Result<(), RunFault>
     requires runner { IsRunner runner.now }
-    requires marks { see_letter Kind.Text marks ≡ letters.letter_of (symbols_by runner.now) (predicates_by runner.now) (c.a_text text.now) }
+    requires marks { see_letter Kind.Text marks
+        ≡ letters.letter_of (symbols_by runner.now) (predicates_by runner.now) (c.a_text text.now) }
     requires above { above < length (told_by runner.now).ancestors.states }
     requires state { IsSomeMove (told_by runner.now) state }
     requires nesting { nesting ≤ 8000 }
@@ -504,7 +539,8 @@ fn apply_to_text<'b>(
     requires known { AreFoundBy runner.now known.old }
     ensures few { OnOk result (output.new.work ≤ 4000000) }
     ensures known { AreFoundBy runner.now known.new }
-    ensures outcome { (bodies : List CallFreeBody) (g : Going) → HasBodies runner.now bodies → IsMoveAt (told_by runner.now) state g → Answers nesting output.old output.new result
+    ensures outcome { (bodies : List CallFreeBody) (g : Going) → HasBodies runner.now bodies
+        → IsMoveAt (told_by runner.now) state g → Answers nesting output.old output.new result
         (outputs_on runner.now bodies (t.text text.now t.none) above g) }
 {
     if !runner.rules.sel_hits(state, Kind::Text, marks) {
@@ -535,8 +571,11 @@ fn apply_to_element<'b>(
 ) -> Result<(), RunFault>
     requires runner { IsRunner runner.now }
     requires here { IsContext runner.now here.now }
-    requires element { (n : ExpandedName) × (kids : t.Trees) × (node here.now ≡ c.one (c.an_element n kids))
-        × (see_letter (Kind.Elem letter.sym) letter.marks ≡ letters.letter_of (symbols_by runner.now) (predicates_by runner.now) (c.an_element n kids)) }
+    requires element { (n : ExpandedName) × (kids : t.Trees)
+        × (node here.now ≡ c.one (c.an_element n kids))
+        × (see_letter (Kind.Elem letter.sym) letter.marks
+        ≡ letters.letter_of (symbols_by runner.now) (predicates_by runner.now)
+        (c.an_element n kids)) }
     requires above { above < length (told_by runner.now).ancestors.states }
     requires state { IsSomeMove (told_by runner.now) state }
     requires nesting { nesting ≤ 8000 }
@@ -544,9 +583,14 @@ fn apply_to_element<'b>(
     requires known { AreFoundBy runner.now known.old }
     ensures few { OnOk result (output.new.work ≤ 4000000) }
     ensures known { AreFoundBy runner.now known.new }
-    ensures outcome { (bodies : List CallFreeBody) (g : Going) → HasBodies runner.now bodies → IsMoveAt (told_by runner.now) state g → Answers nesting output.old output.new result
-        (cond ((machine runner.now bodies).move_hits g (see_letter (Kind.Elem letter.sym) letter.marks))
-        (counted (does runner.now bodies ((machine runner.now bodies).body_at g.task (ancestor (told_by runner.now) above) (see_letter (Kind.Elem letter.sym) letter.marks)) here.now)) nothing) }
+    ensures outcome { (bodies : List CallFreeBody) (g : Going) → HasBodies runner.now bodies
+        → IsMoveAt (told_by runner.now) state g → Answers nesting output.old output.new result
+        (cond
+        ((machine runner.now bodies).move_hits g (see_letter (Kind.Elem letter.sym) letter.marks))
+        (counted
+        (does runner.now bodies
+        ((machine runner.now bodies).body_at g.task (ancestor (told_by runner.now) above)
+        (see_letter (Kind.Elem letter.sym) letter.marks)) here.now)) nothing) }
 {
     let kind = Kind::Elem(letter.sym);
     if !runner.rules.sel_hits(state, kind, letter.marks) {

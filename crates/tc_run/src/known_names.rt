@@ -60,7 +60,8 @@ impl<'b> KnownNames<'b> {
     /// The symbol of a name, if it is remembered.
     fn remembered(&self, name: &Name<'_>) -> Option<Sym>
         requires { length self.now.places.items ≡ 256 }
-        ensures { (symbols : List Mention) → AreNamed symbols self.now → IfSome result (λ s. s.0 ≡ symbol_of symbols (see.name name.now)) }
+        ensures { (symbols : List Mention) → AreNamed symbols self.now
+            → IfSome result (λ s. s.0 ≡ symbol_of symbols (see.name name.now)) }
     {
         let known = self.places[place_of(name)]?;
         if known.name.local == name.local && known.name.uri == name.uri {
@@ -73,7 +74,8 @@ impl<'b> KnownNames<'b> {
     /// Remembers the symbol of a name.
     fn remember(&mut self, name: Name<'b>, sym: Sym)
         requires { length self.old.places.items ≡ 256 }
-        ensures { (symbols : List Mention) → AreNamed symbols self.old → sym.0 ≡ symbol_of symbols (see.name name.entry) → AreNamed symbols self.new }
+        ensures { (symbols : List Mention) → AreNamed symbols self.old → sym.0
+            ≡ symbol_of symbols (see.name name.entry) → AreNamed symbols self.new }
     {
         self.places[place_of(&name)] = Some(Named { name, sym });
     }

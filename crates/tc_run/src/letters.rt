@@ -54,7 +54,8 @@ pub(crate) fn text_of<'b>(arena: &'b Bump, nodes: &[Node<'_>]) -> Result<&'b str
 
 /// The texts in trees, after others.
 fn join_texts(text: &mut String<&Bump>, nodes: &[Node<'_>]) -> Result<(), NoMemory>
-    ensures { OnOk result (string_bytes text.new ≡ string_bytes text.old ++ joined_texts (see.trees nodes.now)) }
+    ensures { OnOk result
+        (string_bytes text.new ≡ string_bytes text.old ++ joined_texts (see.trees nodes.now)) }
 {
     for node in nodes {
         match node {
@@ -114,11 +115,13 @@ fn with_letters<'b>(
 ) -> Result<Below<'b>, NoMemory>
     requires runner { IsRunner runner.now }
     requires text { (rest : List ℕ) × (text.now ≡ joined_texts (see.trees nodes.now) ++ rest) }
-    requires on_texts { on_texts.0 ≡ marks_of (map (λ p. holds_in (looking runner.now) p t.none) (predicates_by runner.now)) }
+    requires on_texts { on_texts.0
+        ≡ marks_of (map (λ p. holds_in (looking runner.now) p t.none) (predicates_by runner.now)) }
     requires names { AreNamed runner.now.alphabet.now names.old }
     requires asked { AreAllAsked runner.now asked.now }
     ensures names { AreNamed runner.now.alphabet.now names.new }
-    ensures nodes { IfOk result (λ b. trees b.nodes.now ≡ lettered_by runner.now (see.trees nodes.now)) }
+    ensures nodes { IfOk result
+        (λ b. trees b.nodes.now ≡ lettered_by runner.now (see.trees nodes.now)) }
     ensures rest { IfOk result (λ b. text.now ≡ joined_texts (see.trees nodes.now) ++ b.rest.now) }
 {
     let mut found = Vec::with_capacity(arena, nodes.len())?;
@@ -159,7 +162,8 @@ fn lettered_element<'b>(
     requires names { AreNamed runner.now.alphabet.now names.old }
     requires asked { AreAllAsked runner.now asked.now }
     ensures names { AreNamed runner.now.alphabet.now names.new }
-    ensures lettered { (rest : t.Trees) → before result (lettered_by runner.now rest) ≡ lettered_by runner.now (t.element (see.name name.now) (l.bare (trees kids.now)) rest) }
+    ensures lettered { (rest : t.Trees) → before result (lettered_by runner.now rest)
+        ≡ lettered_by runner.now (t.element (see.name name.now) (l.bare (trees kids.now)) rest) }
 {
     let letter = Letter {
         sym: names.sym_of(runner.alphabet, name),
@@ -173,7 +177,10 @@ pub(crate) fn marks(runner: &Runner<'_, '_>, asked: &[Asked<'_>], kids: &[Letter
     requires runner { IsRunner runner.now }
     requires kids { IsLetteredBy runner.now (trees kids.now) }
     requires asked { AreAllAsked runner.now asked.now }
-    ensures { result.0 ≡ marks_of (map (λ p. holds_in (looking runner.now) p (l.bare (trees kids.now))) (predicates_by runner.now)) }
+    ensures { result.0
+        ≡ marks_of
+        (map (λ p. holds_in (looking runner.now) p (l.bare (trees kids.now)))
+        (predicates_by runner.now)) }
 {
     let mut marks = 0;
     let mut number = asked.len();

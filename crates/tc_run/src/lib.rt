@@ -71,7 +71,8 @@ pub fn run<'b>(
 ) -> Result<&'b [Node<'b>], RunFault>
     requires rules { IsRulesOf alphabet.now rules.now }
     requires document { IsDocument (before doc.now none) }
-    ensures result { IfOk result (λ out. IsResultOf (told rules.now).sheet (before doc.now none) (trees out.now)) }
+    ensures result { IfOk result
+        (λ out. IsResultOf (told rules.now).sheet (before doc.now none) (trees out.now)) }
     ensures within { OnOk result (KeepsLimits (told rules.now).sheet (before doc.now none)) }
     ensures cause { IfErr result (λ e. IsCause (told rules.now).sheet (before doc.now none) e) }
 {

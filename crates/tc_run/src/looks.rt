@@ -27,7 +27,9 @@ pub(crate) fn first_hit<'b>(
     requires state { IsSomeLook (told_by runner.now) look }
     ensures { (s : Looking) → IsLookAt (told_by runner.now) look s → MatchOption result
         (machine.first_hit (looking runner.now) (l.bare (trees nodes.now)) s ≡ None)
-        (λ x. (n : Node) × (machine.first_hit (looking runner.now) (l.bare (trees nodes.now)) s ≡ Some n) × (x.now ≡ string_value n)) }
+        (λ x. (n : Node)
+        × (machine.first_hit (looking runner.now) (l.bare (trees nodes.now)) s ≡ Some n)
+        × (x.now ≡ string_value n)) }
 {
     for node in nodes {
         let found = first_in(runner, node, look);
@@ -46,7 +48,9 @@ fn first_in<'b>(runner: &Runner<'_, '_>, node: &Lettered<'b>, look: u32) -> Opti
     requires state { IsSomeLook (told_by runner.now) look }
     ensures { (s : Looking) → IsLookAt (told_by runner.now) look s → MatchOption result
         (machine.first_hit (looking runner.now) (l.bare (before node.now l.none)) s ≡ None)
-        (λ x. (n : Node) × (machine.first_hit (looking runner.now) (l.bare (before node.now l.none)) s ≡ Some n) × (x.now ≡ string_value n)) }
+        (λ x. (n : Node)
+        × (machine.first_hit (looking runner.now) (l.bare (before node.now l.none)) s ≡ Some n)
+        × (x.now ≡ string_value n)) }
 {
     match node {
         Lettered::Text(text, marks) => {
@@ -74,7 +78,8 @@ pub(crate) fn holds(runner: &Runner<'_, '_>, test: &Test<'_>, kids: &[Lettered<'
     requires runner { IsRunner runner.now }
     requires kids { IsLetteredBy runner.now (trees kids.now) }
     requires test { IsPartTest (sheet_by runner.now) (see.test test.now) }
-    ensures { result ≡ machine.holds_in (looking runner.now) (see.test test.now) (l.bare (trees kids.now)) }
+    ensures { result
+        ≡ machine.holds_in (looking runner.now) (see.test test.now) (l.bare (trees kids.now)) }
 {
     match test {
         Test::True => true,
@@ -95,7 +100,8 @@ fn all_hold(runner: &Runner<'_, '_>, tests: &[Test<'_>], kids: &[Lettered<'_>]) 
     requires runner { IsRunner runner.now }
     requires kids { IsLetteredBy runner.now (trees kids.now) }
     requires tests { ArePartTests (sheet_by runner.now) (see.tests tests.now) }
-    ensures { result ≡ machine.all_hold_in (looking runner.now) (see.tests tests.now) (l.bare (trees kids.now)) }
+    ensures { result
+        ≡ machine.all_hold_in (looking runner.now) (see.tests tests.now) (l.bare (trees kids.now)) }
 {
     for test in tests {
         if !holds(runner, test, kids) {
@@ -111,7 +117,8 @@ fn some_holds(runner: &Runner<'_, '_>, tests: &[Test<'_>], kids: &[Lettered<'_>]
     requires runner { IsRunner runner.now }
     requires kids { IsLetteredBy runner.now (trees kids.now) }
     requires tests { ArePartTests (sheet_by runner.now) (see.tests tests.now) }
-    ensures { result ≡ machine.some_holds_in (looking runner.now) (see.tests tests.now) (l.bare (trees kids.now)) }
+    ensures { result ≡ machine.some_holds_in (looking runner.now) (see.tests tests.now)
+        (l.bare (trees kids.now)) }
 {
     for test in tests {
         if holds(runner, test, kids) {

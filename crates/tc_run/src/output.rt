@@ -54,7 +54,8 @@ impl<'b> Output<'b> {
     pub(crate) fn count(&mut self) -> Result<(), RunFault>
         ensures ok { OnOk result ((self.new.work ≡ self.old.work + 1) × (self.new.work ≤ 4000000)) }
         ensures nodes { OnOk result (self.new.nodes.items ≡ self.old.nodes.items) }
-        ensures err { IfErr result (λ e. (e ≡ RunFault.TooMuchWork) × (4000000 < self.old.work + 1)) }
+        ensures err { IfErr result
+            (λ e. (e ≡ RunFault.TooMuchWork) × (4000000 < self.old.work + 1)) }
     {
         if self.work < MOST_WORK {
             self.work += 1;
@@ -69,7 +70,8 @@ impl<'b> Output<'b> {
     pub(crate) fn put(&mut self, text: &'b str) -> Result<(), RunFault>
         requires { self.old.work ≤ 4000000 }
         ensures few { OnOk result (self.new.work ≤ 4000000) }
-        ensures outcome { (around : ℕ) → around ≤ 8000 → Answers around self.old self.new result (put_text text.now) }
+        ensures outcome { (around : ℕ) → around ≤ 8000
+            → Answers around self.old self.new result (put_text text.now) }
     {
         if text.is_empty() {
             return Ok(());
@@ -83,8 +85,10 @@ impl<'b> Output<'b> {
     pub(crate) fn enter(&mut self) -> Result<Vec<Node<'b>, &'b Bump>, RunFault>
         ensures before { IfOk result (λ v. v.items ≡ self.old.nodes.items) }
         ensures nodes { OnOk result (trees self.new.nodes.items ≡ none) }
-        ensures work { OnOk result ((self.new.work ≡ self.old.work + 1) × (self.new.work ≤ 4000000)) }
-        ensures err { IfErr result (λ e. (e ≡ RunFault.TooMuchWork) × (4000000 < self.old.work + 1)) }
+        ensures work { OnOk result
+            ((self.new.work ≡ self.old.work + 1) × (self.new.work ≤ 4000000)) }
+        ensures err { IfErr result
+            (λ e. (e ≡ RunFault.TooMuchWork) × (4000000 < self.old.work + 1)) }
     {
         self.count()?;
         Ok(mem::replace(&mut self.nodes, Vec::new(self.arena)))
@@ -97,7 +101,10 @@ impl<'b> Output<'b> {
         name: Name<'b>,
         before: Vec<Node<'b>, &'b Bump>,
     ) -> Result<(), RunFault>
-        ensures nodes { OnOk result (trees self.new.nodes.items ≡ beside (trees before.entry.items) (element (see_name name.entry) (trees self.old.nodes.items) none)) }
+        ensures nodes { OnOk result
+            (trees self.new.nodes.items
+            ≡ beside (trees before.entry.items)
+            (element (see_name name.entry) (trees self.old.nodes.items) none)) }
         ensures work { OnOk result (self.new.work ≡ self.old.work) }
         ensures err { IfErr result (λ e. e ≡ RunFault.NoMemory) }
     {
@@ -108,7 +115,8 @@ impl<'b> Output<'b> {
 
     /// One more tree. The first takes room for itself alone, since most elements hold one tree.
     fn push(&mut self, node: Node<'b>) -> Result<(), NoMemory>
-        ensures nodes { OnOk result (self.new.nodes.items ≡ self.old.nodes.items ++ node.entry ∷ []) }
+        ensures nodes { OnOk result
+            (self.new.nodes.items ≡ self.old.nodes.items ++ node.entry ∷ []) }
         ensures work { OnOk result (self.new.work ≡ self.old.work) }
     {
         if self.nodes.is_empty() {

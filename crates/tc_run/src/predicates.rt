@@ -60,7 +60,8 @@ pub(crate) fn is_met(runner: &Runner<'_, '_>, asked: Asked<'_>, kids: &[Lettered
     requires runner { IsRunner runner.now }
     requires kids { IsLetteredBy runner.now (trees kids.now) }
     requires asked { (t : s.Test) × IsAskedBy runner.now t asked }
-    ensures { (t : s.Test) → IsAskedBy runner.now t asked.entry → result ≡ machine.holds_in (looking runner.now) t (l.bare (trees kids.now)) }
+    ensures { (t : s.Test) → IsAskedBy runner.now t asked.entry → result
+        ≡ machine.holds_in (looking runner.now) t (l.bare (trees kids.now)) }
 {
     match asked {
         Asked::Look(look) => first_hit(runner, kids, look).is_some(),

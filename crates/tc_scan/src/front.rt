@@ -10,7 +10,8 @@ use memchr::{memchr2, memchr3, memmem};
 /// What follows this ASCII byte, where the text begins with it.
 pub fn after_byte(text: &str, byte: u8) -> Option<&str>
     requires { byte < 128 }
-    ensures { MatchOption result ((r : List ℕ) → text.now ≡ byte ∷ r → ⊥) (λ rest. text.now ≡ byte ∷ rest.now) }
+    ensures { MatchOption result ((r : List ℕ) → text.now ≡ byte ∷ r → ⊥)
+        (λ rest. text.now ≡ byte ∷ rest.now) }
 {
     let (first, _) = text.as_bytes().split_first()?;
     if *first == byte {
@@ -22,7 +23,8 @@ pub fn after_byte(text: &str, byte: u8) -> Option<&str>
 
 /// What follows this mark, where the text begins with it.
 pub fn after_mark<'t>(text: &'t str, mark: &str) -> Option<&'t str>
-    ensures { MatchOption result ((r : List ℕ) → text.now ≡ mark.now ++ r → ⊥) (λ rest. text.now ≡ mark.now ++ rest.now) }
+    ensures { MatchOption result ((r : List ℕ) → text.now ≡ mark.now ++ r → ⊥)
+        (λ rest. text.now ≡ mark.now ++ rest.now) }
 {
     if text.as_bytes().starts_with(mark.as_bytes()) {
         Some(&text[mark.len()..])
@@ -33,7 +35,8 @@ pub fn after_mark<'t>(text: &'t str, mark: &str) -> Option<&'t str>
 
 /// Whether the text begins with this mark.
 pub fn begins(text: &str, mark: &str) -> bool
-    ensures { MatchBool result ((r : List ℕ) × (text.now ≡ mark.now ++ r)) ((r : List ℕ) → text.now ≡ mark.now ++ r → ⊥) }
+    ensures { MatchBool result ((r : List ℕ) × (text.now ≡ mark.now ++ r))
+        ((r : List ℕ) → text.now ≡ mark.now ++ r → ⊥) }
 {
     match after_mark(text, mark) {
         Some(_) => true,
@@ -66,7 +69,8 @@ pub fn after_white(text: &str) -> &str
 
 /// What follows the white space at the front, of which there must be some.
 pub fn after_some_white(text: &str) -> Option<&str>
-    ensures { MatchOption result (xml.BeginsWithWhite text.now → ⊥) (λ rest. xml.BeginsWithWhite text.now × (rest.now ≡ xml.after_white text.now)) }
+    ensures { MatchOption result (xml.BeginsWithWhite text.now → ⊥)
+        (λ rest. xml.BeginsWithWhite text.now × (rest.now ≡ xml.after_white text.now)) }
 {
     let count = white_len(text);
     if count == 0 {
@@ -112,7 +116,9 @@ fn length_before(text: &str, mark: &str) -> usize
 pub fn up_to<'t>(text: &'t str, mark: &str) -> Option<(&'t str, &'t str)>
     requires some { 0 < length mark.now }
     requires ascii { slice_index mark.now 0 < 128 }
-    ensures { MatchOption result ((inside after : List ℕ) → xml.UpTo mark.now text.now inside after → ⊥) (λ found. xml.UpTo mark.now text.now found.0.now found.1.now) }
+    ensures { MatchOption result
+        ((inside after : List ℕ) → xml.UpTo mark.now text.now inside after → ⊥)
+        (λ found. xml.UpTo mark.now text.now found.0.now found.1.now) }
 {
     let count = length_before(text, mark);
     if count == text.len() {

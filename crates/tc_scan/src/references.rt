@@ -38,7 +38,8 @@ pub fn predefined(name: &str) -> Option<char>
 fn numbered(digits: &str, base: u32) -> Option<char>
     requires base { (2 ≤ base) × (base ≤ 16) }
     requires digits { AllDigits base digits.now }
-    ensures { MatchOption result (IsTrue (class.is_char (digits_value base digits.now)) → ⊥) (λ c. (c ≡ digits_value base digits.now) × IsTrue (class.is_char c)) }
+    ensures { MatchOption result (IsTrue (class.is_char (digits_value base digits.now)) → ⊥)
+        (λ c. (c ≡ digits_value base digits.now) × IsTrue (class.is_char c)) }
 {
     let mut number: u32 = 0;
     for byte in digits.as_bytes() {
@@ -72,8 +73,11 @@ fn digits_len(text: &str, base: u32) -> usize
 fn by_number(text: &str, base: u32) -> Option<(char, &str)>
     requires { (2 ≤ base) × (base ≤ 16) }
     ensures { MatchOption result
-        ((digits after : List ℕ) → xml_bytes.RunAt (xml.is_digit base) text.now digits (59 ∷ after) → IsTrue (class.is_char (digits_value base digits)) → ⊥)
-        (λ r. (digits : List ℕ) × xml_bytes.RunAt (xml.is_digit base) text.now digits (59 ∷ r.1.now) × (r.0 ≡ digits_value base digits) × IsTrue (class.is_char r.0)) }
+        ((digits after : List ℕ) → xml_bytes.RunAt (xml.is_digit base) text.now digits (59 ∷ after)
+        → IsTrue (class.is_char (digits_value base digits)) → ⊥)
+        (λ r. (digits : List ℕ)
+        × xml_bytes.RunAt (xml.is_digit base) text.now digits (59 ∷ r.1.now)
+        × (r.0 ≡ digits_value base digits) × IsTrue (class.is_char r.0)) }
 {
     let count = digits_len(text, base);
     if count == 0 {
@@ -159,7 +163,8 @@ pub fn quote(text: &str) -> Option<(u8, &str)>
 
 /// What follows an equals sign and the white space around it (XML 1.0, 2.8).
 pub fn after_equals(text: &str) -> Option<&str>
-    ensures { MatchOption result ((after : List ℕ) → xml_bytes.EqualsAt text.now after → ⊥) (λ r. xml_bytes.EqualsAt text.now r.now) }
+    ensures { MatchOption result ((after : List ℕ) → xml_bytes.EqualsAt text.now after → ⊥)
+        (λ r. xml_bytes.EqualsAt text.now r.now) }
 {
     Some(after_white(after_byte(after_white(text), b'=')?))
 }

@@ -23,7 +23,8 @@ pub(crate) fn is_bit_set(words: &[u64], word: usize, place: u32) -> bool
 pub(crate) fn set_bit(words: &mut [u64], word: usize, place: u32)
     requires within { word < length words.old }
     requires place { place < 64 }
-    ensures { words.new ≡ slice_set words.old word (bit_or (slice_index words.old word) (2 ^ place)) }
+    ensures { words.new
+        ≡ slice_set words.old word (bit_or (slice_index words.old word) (2 ^ place)) }
 {
     words[word] = words[word] | (1u64 << place);
 }
@@ -31,7 +32,8 @@ pub(crate) fn set_bit(words: &mut [u64], word: usize, place: u32)
 /// Sets the bits that are set in other words.
 pub(crate) fn join(words: &mut [u64], other: &[u64])
     requires { length words.old ≡ length other.now }
-    ensures { (w : ℕ) → slice_index words.new w ≡ bit_or (slice_index words.old w) (slice_index other.now w) }
+    ensures { (w : ℕ) → slice_index words.new w
+        ≡ bit_or (slice_index words.old w) (slice_index other.now w) }
 {
     for k in 0..words.len() {
         words[k] = words[k] | other[k];
@@ -41,7 +43,8 @@ pub(crate) fn join(words: &mut [u64], other: &[u64])
 /// Leaves the bits alone that are set in other words too.
 pub(crate) fn meet(words: &mut [u64], other: &[u64])
     requires { length words.old ≡ length other.now }
-    ensures { (w : ℕ) → slice_index words.new w ≡ bit_and (slice_index words.old w) (slice_index other.now w) }
+    ensures { (w : ℕ) → slice_index words.new w
+        ≡ bit_and (slice_index words.old w) (slice_index other.now w) }
 {
     for k in 0..words.len() {
         words[k] = words[k] & other[k];
@@ -58,8 +61,10 @@ pub(crate) fn are_zero(words: &[u64]) -> bool
 /// Whether no bit is set in both.
 pub(crate) fn are_apart(words: &[u64], other: &[u64]) -> bool
     requires { length words.now ≡ length other.now }
-    ensures yes { IsTrue result → (w : ℕ) → w < length words.now → bit_and (slice_index words.now w) (slice_index other.now w) ≡ 0 }
-    ensures no { result ≡ false → (w : ℕ) × (bit_and (slice_index words.now w) (slice_index other.now w) ≢ 0) }
+    ensures yes { IsTrue result → (w : ℕ) → w < length words.now
+        → bit_and (slice_index words.now w) (slice_index other.now w) ≡ 0 }
+    ensures no { result ≡ false → (w : ℕ)
+        × (bit_and (slice_index words.now w) (slice_index other.now w) ≢ 0) }
 {
     for k in 0..words.len() {
         if words[k] & other[k] != 0 {

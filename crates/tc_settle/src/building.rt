@@ -53,7 +53,9 @@ pub fn build<'b, R: NumberedRows>(
     requires closure { IsClosure (R.held rows.now) closed.now }
     requires symbols { (R.held rows.now).symbols ≤ symbol_count alphabet.now }
     requires tree { tree < (R.held rows.now).trees }
-    ensures made { IfOk result (λ node. IsOneMade (R.held rows.now) alphabet.now (before node none) tree (tree_cost closed.now tree)) }
+    ensures made { IfOk result
+        (λ node. IsOneMade (R.held rows.now) alphabet.now (before node none) tree
+        (tree_cost closed.now tree)) }
     ensures near { OnOk result (tree_cost closed.now tree ≤ 2000) }
     ensures many { IsErrOf result BuildFault.TooManyNodes → tree_cost closed.now tree ≡ 2001 }
 {
@@ -72,7 +74,8 @@ fn build_element<'b>(
     kids: &'b [Node<'b>],
 ) -> Result<Node<'b>, NoMemory>
     requires { symbol < symbol_count alphabet.now }
-    ensures { IfOk result (λ node. before node none ≡ element (fresh_name alphabet.now symbol) (trees kids.now) none) }
+    ensures { IfOk result (λ node. before node none
+        ≡ element (fresh_name alphabet.now symbol) (trees kids.now) none) }
 {
     let name = alphabet.fresh(arena, Sym(symbol))?;
     Ok(Node::Elem(name, kids))
@@ -91,7 +94,9 @@ fn build_tree<'b, R: NumberedRows>(
     requires symbols { (R.held rows.now).symbols ≤ symbol_count alphabet.now }
     requires tree { tree < (R.held rows.now).trees }
     requires near { tree_cost closed.now tree ≤ 2000 }
-    ensures { IfOk result (λ node. IsOneMade (R.held rows.now) alphabet.now (before node none) tree (tree_cost closed.now tree)) }
+    ensures { IfOk result
+        (λ node. IsOneMade (R.held rows.now) alphabet.now (before node none) tree
+        (tree_cost closed.now tree)) }
 {
     match closed.trees[tree as usize] {
         MadeTree::Text => Ok(Node::Text("t")),
@@ -116,7 +121,9 @@ fn build_kids<'b, R: NumberedRows>(
     requires symbols { (R.held rows.now).symbols ≤ symbol_count alphabet.now }
     requires hedge { hedge < (R.held rows.now).hedges }
     requires near { hedge_cost closed.now hedge ≤ 2000 }
-    ensures { IfOk result (λ kids. IsMadeWith (R.held rows.now) alphabet.now (trees kids.now) hedge (hedge_cost closed.now hedge)) }
+    ensures { IfOk result
+        (λ kids. IsMadeWith (R.held rows.now) alphabet.now (trees kids.now) hedge
+        (hedge_cost closed.now hedge)) }
 {
     let mut kids = Vec::new(arena);
     push_kids(arena, alphabet, rows, closed, &mut kids, hedge)?;
@@ -139,7 +146,9 @@ fn push_kids<'b, R: NumberedRows>(
     requires hedge { hedge < (R.held rows.now).hedges }
     requires near { hedge_cost closed.now hedge ≤ 2000 }
     requires none { kids.old.items ≡ [] }
-    ensures { OnOk result (IsMadeWith (R.held rows.now) alphabet.now (trees (reverse kids.new.items)) hedge (hedge_cost closed.now hedge)) }
+    ensures { OnOk result
+        (IsMadeWith (R.held rows.now) alphabet.now (trees (reverse kids.new.items)) hedge
+        (hedge_cost closed.now hedge)) }
 {
     let mut rest = hedge;
     while let Some((front, tree)) = closed.appended(rest) {

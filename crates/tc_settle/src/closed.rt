@@ -128,7 +128,8 @@ impl Closed {
     /// The list of trees and the tree behind of which a list is made; none for the list of no tree.
     pub(crate) fn appended(&self, hedge: u32) -> Option<(u32, u32)>
         requires { hedge < length self.now.hedges.items }
-        ensures { MatchOption result (slice_get self.now.hedges.items hedge ≡ Some MadeHedge.None) (λ p. slice_get self.now.hedges.items hedge ≡ Some (MadeHedge.Append p.0 p.1)) }
+        ensures { MatchOption result (slice_get self.now.hedges.items hedge ≡ Some MadeHedge.None)
+            (λ p. slice_get self.now.hedges.items hedge ≡ Some (MadeHedge.Append p.0 p.1)) }
     {
         match self.hedges[hedge as usize] {
             MadeHedge::None => None,
@@ -140,10 +141,15 @@ impl Closed {
     pub(crate) fn reach(&self) -> u32
         requires hedges { IsInOrder self.now.hedge_costs.items }
         requires trees { IsInOrder self.now.tree_costs.items }
-        requires hedges_most { (u : ℕ) → u < length self.now.hedge_costs.items → hedge_cost self.now u ≤ 2001 }
-        requires trees_most { (u : ℕ) → u < length self.now.tree_costs.items → tree_cost self.now u ≤ 2001 }
-        ensures wraps { (h : ℕ) → h < length self.now.hedge_costs.items → hedge_cost self.now h + 1 ≤ result }
-        ensures appends { (h t : ℕ) → h < length self.now.hedge_costs.items → t < length self.now.tree_costs.items → hedge_cost self.now h + tree_cost self.now t ≤ result }
+        requires hedges_most { (u : ℕ) → u < length self.now.hedge_costs.items
+            → hedge_cost self.now u ≤ 2001 }
+        requires trees_most { (u : ℕ) → u < length self.now.tree_costs.items
+            → tree_cost self.now u ≤ 2001 }
+        ensures wraps { (h : ℕ) → h < length self.now.hedge_costs.items
+            → hedge_cost self.now h + 1 ≤ result }
+        ensures appends { (h t : ℕ) → h < length self.now.hedge_costs.items
+            → t < length self.now.tree_costs.items
+            → hedge_cost self.now h + tree_cost self.now t ≤ result }
     {
         let hedge = greatest(&self.hedge_costs);
         let tree = greatest(&self.tree_costs);

@@ -10,7 +10,9 @@ use crate::rows::NumberedRows;
 pub fn first_failing<R: NumberedRows>(rows: &mut R, closed: &Closed) -> Option<u32>
     requires closure { IsClosure (R.held rows.old) closed.now }
     requires few { (R.held rows.old).trees ≤ 4294967295 }
-    ensures first { MatchOption result ((t : ℕ) → t < (R.held rows.old).trees → (R.held rows.old).passes t) (λ k. IsFirstFailing (R.held rows.old) closed.now k) }
+    ensures first { MatchOption result
+        ((t : ℕ) → t < (R.held rows.old).trees → (R.held rows.old).passes t)
+        (λ k. IsFirstFailing (R.held rows.old) closed.now k) }
     ensures same { SameRows (R.held rows.old) (R.held rows.new) }
 {
     for tree in 0..closed.tree_count() {

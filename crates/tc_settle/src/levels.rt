@@ -24,7 +24,8 @@ pub(crate) fn level<R: NumberedRows>(
     requires some { 1 ≤ cost }
     requires near { cost ≤ 2000 }
     requires ready { IsReady most cost (R.held rows.old) closed.old starts.old.items wrapped }
-    ensures ready { IfOk result (λ w. IsReady most (cost + 1) (R.held rows.new) closed.new starts.new.items w) }
+    ensures ready { IfOk result
+        (λ w. IsReady most (cost + 1) (R.held rows.new) closed.new starts.new.items w) }
     ensures cause { IfErr result (λ e. IsCause (R.is_full rows.new) most (R.held rows.new) e) }
 {
     let count = closed.hedge_count();
@@ -47,7 +48,8 @@ fn wrap_far<R: NumberedRows>(
     requires up_to { AreUpTo (R.held rows.old) closed.old 2001 }
     requires hedge { hedge < (R.held rows.old).hedges }
     requires near { AreDoneBelow (R.held rows.old) closed.old 2001 }
-    ensures steps { OnOk result (Steps most 2001 (R.held rows.old) closed.old (R.held rows.new) closed.new) }
+    ensures steps { OnOk result
+        (Steps most 2001 (R.held rows.old) closed.old (R.held rows.new) closed.new) }
     ensures hedges { OnOk result ((R.held rows.new).hedges ≡ (R.held rows.old).hedges) }
     ensures done { OnOk result (AreWrapsDone (R.held rows.new) closed.new hedge) }
     ensures cause { IfErr result (λ e. IsCause (R.is_full rows.new) most (R.held rows.new) e) }
@@ -74,7 +76,8 @@ fn append_before<R: NumberedRows>(
     requires hedge { hedge ≤ (R.held rows.old).hedges }
     requires to { to ≤ (R.held rows.old).trees }
     requires cost { (t : ℕ) → from ≤ t → t < to → tree_cost closed.old t ≡ 2001 }
-    ensures steps { OnOk result (Steps most 2001 (R.held rows.old) closed.old (R.held rows.new) closed.new) }
+    ensures steps { OnOk result
+        (Steps most 2001 (R.held rows.old) closed.old (R.held rows.new) closed.new) }
     ensures trees { OnOk result ((R.held rows.new).trees ≡ (R.held rows.old).trees) }
     ensures done { OnOk result (AreRangesDone (R.held rows.new) closed.new hedge from to) }
     ensures cause { IfErr result (λ e. IsCause (R.is_full rows.new) most (R.held rows.new) e) }

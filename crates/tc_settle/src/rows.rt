@@ -38,7 +38,8 @@ pub trait NumberedRows: Drop {
         requires room { (held self.old).hedges < 4294967295 }
         ensures grows { Grows (held self.old) (held self.new) }
         ensures trees { (held self.new).trees ≡ (held self.old).trees }
-        ensures made { IfOk result (λ u. IsNoneAt (held self.new) u × IsHeldAs (held self.old).hedges (held self.new).hedges u) }
+        ensures made { IfOk result (λ u. IsNoneAt (held self.new) u
+            × IsHeldAs (held self.old).hedges (held self.new).hedges u) }
         ensures fault { OnErr result (IsUnchanged (held self.old) (held self.new)) }
         ensures full { IfErr result (λ e. e ≡ HoldFault.Full → is_full self.new) };
 
@@ -51,7 +52,11 @@ pub trait NumberedRows: Drop {
         requires room { (held self.old).trees < 4294967295 }
         ensures grows { Grows (held self.old) (held self.new) }
         ensures hedges { (held self.new).hedges ≡ (held self.old).hedges }
-        ensures made { IfOk result (λ o. MatchOption o ((held self.new).no_text × IsUnchanged (held self.old) (held self.new)) (λ u. IsTextAt (held self.new) u × IsHeldAs (held self.old).trees (held self.new).trees u)) }
+        ensures made { IfOk result
+            (λ o. MatchOption o
+            ((held self.new).no_text × IsUnchanged (held self.old) (held self.new))
+            (λ u. IsTextAt (held self.new) u
+            × IsHeldAs (held self.old).trees (held self.new).trees u)) }
         ensures fault { OnErr result (IsUnchanged (held self.old) (held self.new)) }
         ensures full { IfErr result (λ e. e ≡ HoldFault.Full → is_full self.new) };
 
@@ -66,7 +71,11 @@ pub trait NumberedRows: Drop {
         requires room { (held self.old).hedges < 4294967295 }
         ensures grows { Grows (held self.old) (held self.new) }
         ensures trees { (held self.new).trees ≡ (held self.old).trees }
-        ensures made { IfOk result (λ o. MatchOption o ((held self.new).no_append hedge tree × IsUnchanged (held self.old) (held self.new)) (λ u. IsAppendAt (held self.new) hedge tree u × IsHeldAs (held self.old).hedges (held self.new).hedges u)) }
+        ensures made { IfOk result
+            (λ o. MatchOption o
+            ((held self.new).no_append hedge tree × IsUnchanged (held self.old) (held self.new))
+            (λ u. IsAppendAt (held self.new) hedge tree u
+            × IsHeldAs (held self.old).hedges (held self.new).hedges u)) }
         ensures fault { OnErr result (IsUnchanged (held self.old) (held self.new)) }
         ensures full { IfErr result (λ e. e ≡ HoldFault.Full → is_full self.new) };
 
@@ -81,13 +90,18 @@ pub trait NumberedRows: Drop {
         requires room { (held self.old).trees < 4294967295 }
         ensures grows { Grows (held self.old) (held self.new) }
         ensures hedges { (held self.new).hedges ≡ (held self.old).hedges }
-        ensures made { IfOk result (λ o. MatchOption o ((held self.new).no_wrap symbol hedge × IsUnchanged (held self.old) (held self.new)) (λ u. IsWrapAt (held self.new) symbol hedge u × IsHeldAs (held self.old).trees (held self.new).trees u)) }
+        ensures made { IfOk result
+            (λ o. MatchOption o
+            ((held self.new).no_wrap symbol hedge × IsUnchanged (held self.old) (held self.new))
+            (λ u. IsWrapAt (held self.new) symbol hedge u
+            × IsHeldAs (held self.old).trees (held self.new).trees u)) }
         ensures fault { OnErr result (IsUnchanged (held self.old) (held self.new)) }
         ensures full { IfErr result (λ e. e ≡ HoldFault.Full → is_full self.new) };
 
     /// Whether the row of a tree fails: it is that of a document whose result isn't valid.
     fn is_failing(&mut self, tree: u32) -> bool
         requires { tree < (held self.old).trees }
-        ensures fails { MatchBool result ((held self.old).fails tree) ((held self.old).passes tree) }
+        ensures fails { MatchBool result ((held self.old).fails tree)
+            ((held self.old).passes tree) }
         ensures same { SameRows (held self.old) (held self.new) };
 }

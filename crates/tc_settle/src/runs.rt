@@ -23,10 +23,13 @@ pub(crate) fn append_trees<R: NumberedRows>(
     requires up_to { AreUpTo (R.held rows.old) closed.old cost }
     requires hedge { hedge < (R.held rows.old).hedges }
     requires to { to ≤ (R.held rows.old).trees }
-    requires cost { (t : ℕ) → from ≤ t → t < to → IsCapped (hedge_cost closed.old hedge + tree_cost closed.old t) cost }
-    ensures steps { OnOk result (Steps most cost (R.held rows.old) closed.old (R.held rows.new) closed.new) }
+    requires cost { (t : ℕ) → from ≤ t → t < to
+        → IsCapped (hedge_cost closed.old hedge + tree_cost closed.old t) cost }
+    ensures steps { OnOk result
+        (Steps most cost (R.held rows.old) closed.old (R.held rows.new) closed.new) }
     ensures trees { OnOk result ((R.held rows.new).trees ≡ (R.held rows.old).trees) }
-    ensures done { OnOk result ((t : ℕ) → from ≤ t → t < to → IsAppendDone (R.held rows.new) closed.new hedge t) }
+    ensures done { OnOk result
+        ((t : ℕ) → from ≤ t → t < to → IsAppendDone (R.held rows.new) closed.new hedge t) }
     ensures cause { IfErr result (λ e. IsCause (R.is_full rows.new) most (R.held rows.new) e) }
 {
     for tree in from..to {
@@ -49,7 +52,8 @@ pub(crate) fn wrap_symbols<R: NumberedRows>(
     requires up_to { AreUpTo (R.held rows.old) closed.old cost }
     requires hedge { hedge < (R.held rows.old).hedges }
     requires cost { IsCapped (hedge_cost closed.old hedge + 1) cost }
-    ensures steps { OnOk result (Steps most cost (R.held rows.old) closed.old (R.held rows.new) closed.new) }
+    ensures steps { OnOk result
+        (Steps most cost (R.held rows.old) closed.old (R.held rows.new) closed.new) }
     ensures hedges { OnOk result ((R.held rows.new).hedges ≡ (R.held rows.old).hedges) }
     ensures done { OnOk result (AreWrapsDone (R.held rows.new) closed.new hedge) }
     ensures cause { IfErr result (λ e. IsCause (R.is_full rows.new) most (R.held rows.new) e) }
@@ -75,9 +79,11 @@ pub(crate) fn wrap_hedges<R: NumberedRows>(
     requires up_to { AreUpTo (R.held rows.old) closed.old cost }
     requires to { to ≤ (R.held rows.old).hedges }
     requires cost { (h : ℕ) → from ≤ h → h < to → IsCapped (hedge_cost closed.old h + 1) cost }
-    ensures steps { OnOk result (Steps most cost (R.held rows.old) closed.old (R.held rows.new) closed.new) }
+    ensures steps { OnOk result
+        (Steps most cost (R.held rows.old) closed.old (R.held rows.new) closed.new) }
     ensures hedges { OnOk result ((R.held rows.new).hedges ≡ (R.held rows.old).hedges) }
-    ensures done { OnOk result ((h : ℕ) → from ≤ h → h < to → AreWrapsDone (R.held rows.new) closed.new h) }
+    ensures done { OnOk result
+        ((h : ℕ) → from ≤ h → h < to → AreWrapsDone (R.held rows.new) closed.new h) }
     ensures cause { IfErr result (λ e. IsCause (R.is_full rows.new) most (R.held rows.new) e) }
 {
     for hedge in from..to {
@@ -105,7 +111,8 @@ pub(crate) fn append_level<R: NumberedRows>(
     requires cost { cost ≤ 2000 }
     requires starts { AreStarts (R.held rows.old) closed.old starts.now }
     requires all { length starts.now ≡ cost + 2 }
-    ensures steps { OnOk result (Steps most cost (R.held rows.old) closed.old (R.held rows.new) closed.new) }
+    ensures steps { OnOk result
+        (Steps most cost (R.held rows.old) closed.old (R.held rows.new) closed.new) }
     ensures trees { OnOk result ((R.held rows.new).trees ≡ (R.held rows.old).trees) }
     ensures done { OnOk result (AreSumsDone (R.held rows.new) closed.new count cost) }
     ensures cause { IfErr result (λ e. IsCause (R.is_full rows.new) most (R.held rows.new) e) }

@@ -27,7 +27,8 @@ pub fn close<R: NumberedRows>(alloc: Global, rows: &mut R, most: u32) -> Result<
     requires hedges { (R.held rows.old).hedges ≡ 0 }
     requires most { most < 4294967295 }
     ensures closure { IfOk result (λ c. IsClosure (R.held rows.new) c) }
-    ensures few { OnOk result (((R.held rows.new).trees ≤ most) × ((R.held rows.new).hedges ≤ most)) }
+    ensures few { OnOk result
+        (((R.held rows.new).trees ≤ most) × ((R.held rows.new).hedges ≤ most)) }
     ensures cause { IfErr result (λ e. IsCause (R.is_full rows.new) most (R.held rows.new) e) }
 {
     let closed = find(alloc, rows, most)?;

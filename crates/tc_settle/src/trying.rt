@@ -16,7 +16,8 @@ pub(crate) fn try_text<R: NumberedRows>(
     requires kept { IsKept (R.held rows.old) closed.old }
     requires few { AreFew (R.held rows.old) closed.old most }
     requires up_to { AreUpTo (R.held rows.old) closed.old 1 }
-    ensures steps { OnOk result (Steps most 1 (R.held rows.old) closed.old (R.held rows.new) closed.new) }
+    ensures steps { OnOk result
+        (Steps most 1 (R.held rows.old) closed.old (R.held rows.new) closed.new) }
     ensures hedges { OnOk result ((R.held rows.new).hedges ≡ (R.held rows.old).hedges) }
     ensures done { OnOk result (IsTextDone (R.held rows.new) closed.new) }
     ensures cause { IfErr result (λ e. IsCause (R.is_full rows.new) most (R.held rows.new) e) }
@@ -49,7 +50,8 @@ pub(crate) fn try_wrap<R: NumberedRows>(
     requires symbol { symbol < (R.held rows.old).symbols }
     requires hedge { hedge < (R.held rows.old).hedges }
     requires cost { IsCapped (hedge_cost closed.old hedge + 1) cost }
-    ensures steps { OnOk result (Steps most cost (R.held rows.old) closed.old (R.held rows.new) closed.new) }
+    ensures steps { OnOk result
+        (Steps most cost (R.held rows.old) closed.old (R.held rows.new) closed.new) }
     ensures hedges { OnOk result ((R.held rows.new).hedges ≡ (R.held rows.old).hedges) }
     ensures done { OnOk result (IsWrapDone (R.held rows.new) closed.new symbol hedge) }
     ensures cause { IfErr result (λ e. IsCause (R.is_full rows.new) most (R.held rows.new) e) }
@@ -82,7 +84,8 @@ pub(crate) fn try_append<R: NumberedRows>(
     requires hedge { hedge < (R.held rows.old).hedges }
     requires tree { tree < (R.held rows.old).trees }
     requires cost { IsCapped (hedge_cost closed.old hedge + tree_cost closed.old tree) cost }
-    ensures steps { OnOk result (Steps most cost (R.held rows.old) closed.old (R.held rows.new) closed.new) }
+    ensures steps { OnOk result
+        (Steps most cost (R.held rows.old) closed.old (R.held rows.new) closed.new) }
     ensures trees { OnOk result ((R.held rows.new).trees ≡ (R.held rows.old).trees) }
     ensures done { OnOk result (IsAppendDone (R.held rows.new) closed.new hedge tree) }
     ensures cause { IfErr result (λ e. IsCause (R.is_full rows.new) most (R.held rows.new) e) }

@@ -30,14 +30,17 @@ use tc_scan::{QualifiedName, qname};
 
 /// Whether an attribute has this local name and no namespace.
 fn has_plain_name(attribute: &RawAttr<'_>, local: &str) -> bool
-    ensures { result ≡ (is_empty (see.attribute attribute.now).name.uri && bytes_eq (see.attribute attribute.now).name.local local.now) }
+    ensures { result
+        ≡ (is_empty (see.attribute attribute.now).name.uri
+        && bytes_eq (see.attribute attribute.now).name.local local.now) }
 {
     attribute.name.uri.is_empty() && attribute.name.local == local
 }
 
 /// The attribute of this local name that has no namespace, if there is one.
 pub(crate) fn attribute_of<'e, 'b>(element: &'e RawElem<'b>, local: &str) -> Option<&'e RawAttr<'b>>
-    ensures { MatchOption result (phrases.value_of local.now (attributes_of element.now) ≡ None) (λ a. IsAttribute element.now local.now a.now) }
+    ensures { MatchOption result (phrases.value_of local.now (attributes_of element.now) ≡ None)
+        (λ a. IsAttribute element.now local.now a.now) }
 {
     for attribute in element.attrs {
         if has_plain_name(attribute, local) {
@@ -52,7 +55,8 @@ fn unexpected(element: &RawElem<'_>, attribute: &RawAttr<'_>) -> SheetFault
     requires xslt { (see.name element.now.name).uri ≡ xsl_uri }
     requires has { Contains (attributes_of element.now) (see.attribute attribute.now) }
     requires plain { IsTrue (is_empty (see.attribute attribute.now).name.uri) }
-    requires unweighed { IsWeighed (see.name element.now.name) (see.attribute attribute.now).name → ⊥ }
+    requires unweighed { IsWeighed (see.name element.now.name) (see.attribute attribute.now).name
+        → ⊥ }
     ensures { IsFaultOf result (alone element.now) }
 {
     let place = attribute.place;
@@ -79,7 +83,10 @@ pub(crate) fn is_root(name: &Name<'_>) -> bool
 
 /// Whether an attribute of an XSLT element has a namespace or is of one of these names.
 fn is_expected(attribute: &RawAttr<'_>, locals: &[&str]) -> bool
-    ensures { result ≡ (not (is_empty (see.attribute attribute.now).name.uri) || list_any (bytes_eq (see.attribute attribute.now).name.local) (map (λ w. w.now) locals.now)) }
+    ensures { result
+        ≡ (not (is_empty (see.attribute attribute.now).name.uri)
+        || list_any (bytes_eq (see.attribute attribute.now).name.local)
+        (map (λ w. w.now) locals.now)) }
 {
     !attribute.name.uri.is_empty() || is_among(attribute.name.local, locals)
 }
@@ -93,8 +100,14 @@ fn check_attribute(
     requires xslt { (see.name element.now.name).uri ≡ xsl_uri }
     requires has { Contains (attributes_of element.now) (see.attribute attribute.now) }
     requires weighed { AreWeighedAmong (map (λ w. w.now) locals.now) (see.name element.now.name) }
-    ensures ok { OnOk result (IsTrue (not (is_empty (see.attribute attribute.now).name.uri) || list_any (bytes_eq (see.attribute attribute.now).name.local) (map (λ w. w.now) locals.now))) }
-    ensures no { IfErr result (λ e. Refuses e (alone element.now) (HasNoAttributes element.now (phrases.HasOnly (map (λ w. w.now) locals.now)))) }
+    ensures ok { OnOk result
+        (IsTrue
+        (not (is_empty (see.attribute attribute.now).name.uri)
+        || list_any (bytes_eq (see.attribute attribute.now).name.local)
+        (map (λ w. w.now) locals.now))) }
+    ensures no { IfErr result
+        (λ e. Refuses e (alone element.now)
+        (HasNoAttributes element.now (phrases.HasOnly (map (λ w. w.now) locals.now)))) }
 {
     if is_expected(attribute, locals) {
         Ok(())
@@ -107,8 +120,11 @@ fn check_attribute(
 pub(crate) fn only_attributes(element: &RawElem<'_>, locals: &[&str]) -> Result<(), SheetFault>
     requires xslt { (see.name element.now.name).uri ≡ xsl_uri }
     requires weighed { AreWeighedAmong (map (λ w. w.now) locals.now) (see.name element.now.name) }
-    ensures ok { OnOk result (phrases.HasOnly (map (λ w. w.now) locals.now) (attributes_of element.now)) }
-    ensures no { IfErr result (λ e. Refuses e (alone element.now) (HasNoAttributes element.now (phrases.HasOnly (map (λ w. w.now) locals.now)))) }
+    ensures ok { OnOk result
+        (phrases.HasOnly (map (λ w. w.now) locals.now) (attributes_of element.now)) }
+    ensures no { IfErr result
+        (λ e. Refuses e (alone element.now)
+        (HasNoAttributes element.now (phrases.HasOnly (map (λ w. w.now) locals.now)))) }
 {
     for attribute in element.attrs {
         check_attribute(element, attribute, locals)?;
@@ -119,7 +135,9 @@ pub(crate) fn only_attributes(element: &RawElem<'_>, locals: &[&str]) -> Result<
 /// Whether an attribute of a literal element has another namespace than that of XSLT, or is
 /// `exclude-result-prefixes` (XSLT 1.0, 7.1.1).
 fn is_passed_over(attribute: &RawAttr<'_>) -> bool
-    ensures { result ≡ (not (bytes_eq (see.attribute attribute.now).name.uri xsl_uri) || bytes_eq (see.attribute attribute.now).name.local (codes "exclude-result-prefixes")) }
+    ensures { result
+        ≡ (not (bytes_eq (see.attribute attribute.now).name.uri xsl_uri)
+        || bytes_eq (see.attribute attribute.now).name.local (codes "exclude-result-prefixes")) }
 {
     attribute.name.uri != XSL || attribute.name.local == "exclude-result-prefixes"
 }
@@ -143,8 +161,11 @@ fn unexpected_in_literal(element: &RawElem<'_>, attribute: &RawAttr<'_>) -> Shee
 fn check_literal_attribute(element: &RawElem<'_>, attribute: &RawAttr<'_>) -> Result<(), SheetFault>
     requires literal { (see.name element.now.name).uri ≢ xsl_uri }
     requires has { Contains (attributes_of element.now) (see.attribute attribute.now) }
-    ensures ok { OnOk result (IsTrue (not (bytes_eq (see.attribute attribute.now).name.uri xsl_uri) || bytes_eq (see.attribute attribute.now).name.local (codes "exclude-result-prefixes"))) }
-    ensures no { IfErr result (λ e. Refuses e (alone element.now) (HasNoAttributes element.now phrases.AreLiteral)) }
+    ensures ok { OnOk result
+        (IsTrue (not (bytes_eq (see.attribute attribute.now).name.uri xsl_uri)
+        || bytes_eq (see.attribute attribute.now).name.local (codes "exclude-result-prefixes"))) }
+    ensures no { IfErr result
+        (λ e. Refuses e (alone element.now) (HasNoAttributes element.now phrases.AreLiteral)) }
 {
     if is_passed_over(attribute) {
         Ok(())
@@ -158,7 +179,8 @@ fn check_literal_attribute(element: &RawElem<'_>, attribute: &RawAttr<'_>) -> Re
 pub(crate) fn check_literal_attributes(element: &RawElem<'_>) -> Result<(), SheetFault>
     requires { (see.name element.now.name).uri ≢ xsl_uri }
     ensures ok { OnOk result (phrases.AreLiteral (attributes_of element.now)) }
-    ensures no { IfErr result (λ e. Refuses e (alone element.now) (HasNoAttributes element.now phrases.AreLiteral)) }
+    ensures no { IfErr result
+        (λ e. Refuses e (alone element.now) (HasNoAttributes element.now phrases.AreLiteral)) }
 {
     for attribute in element.attrs {
         check_literal_attribute(element, attribute)?;
@@ -172,8 +194,12 @@ pub(crate) fn optional_select<'b>(
     element: &RawElem<'b>,
 ) -> Result<Option<Path<'b>>, SheetFault>
     requires { MustHave (see.name element.now.name) (plain (codes "select")) forms.select }
-    ensures ok { IfOk result (λ p. phrases.Optional (texts.SelectText (scope_of element.now)) (phrases.value_of (codes "select") (attributes_of element.now)) (option_map see.path p)) }
-    ensures no { IfErr result (λ e. Refuses e (alone element.now) (HasNoOptional element.now (codes "select") (texts.SelectText (scope_of element.now)))) }
+    ensures ok { IfOk result
+        (λ p. phrases.Optional (texts.SelectText (scope_of element.now))
+        (phrases.value_of (codes "select") (attributes_of element.now)) (option_map see.path p)) }
+    ensures no { IfErr result
+        (λ e. Refuses e (alone element.now)
+        (HasNoOptional element.now (codes "select") (texts.SelectText (scope_of element.now)))) }
 {
     let Some(attribute) = attribute_of(element, "select") else {
         return Ok(None);
@@ -190,8 +216,12 @@ pub(crate) fn required_select<'b>(
     element: &RawElem<'b>,
 ) -> Result<Path<'b>, SheetFault>
     requires { MustHave (see.name element.now.name) (plain (codes "select")) forms.select }
-    ensures ok { IfOk result (λ p. phrases.Required (texts.SelectText (scope_of element.now)) (phrases.value_of (codes "select") (attributes_of element.now)) (see.path p)) }
-    ensures no { IfErr result (λ e. Refuses e (alone element.now) (HasNoRequired element.now (codes "select") (texts.SelectText (scope_of element.now)))) }
+    ensures ok { IfOk result
+        (λ p. phrases.Required (texts.SelectText (scope_of element.now))
+        (phrases.value_of (codes "select") (attributes_of element.now)) (see.path p)) }
+    ensures no { IfErr result
+        (λ e. Refuses e (alone element.now)
+        (HasNoRequired element.now (codes "select") (texts.SelectText (scope_of element.now)))) }
 {
     let Some(attribute) = attribute_of(element, "select") else {
         return Err(SheetFault::Malformed(element.place));
@@ -208,8 +238,13 @@ pub(crate) fn required_value<'b>(
     element: &RawElem<'b>,
 ) -> Result<Instr<'b>, SheetFault>
     requires { MustHave (see.name element.now.name) (plain (codes "select")) forms.value }
-    ensures ok { IfOk result (λ i. phrases.Required (texts.ValueText (scope_of element.now)) (phrases.value_of (codes "select") (attributes_of element.now)) (see.instruction i sheets.no_instruction)) }
-    ensures no { IfErr result (λ e. Refuses e (alone element.now) (HasNoRequired element.now (codes "select") (texts.ValueText (scope_of element.now)))) }
+    ensures ok { IfOk result
+        (λ i. phrases.Required (texts.ValueText (scope_of element.now))
+        (phrases.value_of (codes "select") (attributes_of element.now))
+        (see.instruction i sheets.no_instruction)) }
+    ensures no { IfErr result
+        (λ e. Refuses e (alone element.now)
+        (HasNoRequired element.now (codes "select") (texts.ValueText (scope_of element.now)))) }
 {
     let Some(attribute) = attribute_of(element, "select") else {
         return Err(SheetFault::Malformed(element.place));
@@ -226,8 +261,12 @@ pub(crate) fn required_test<'b>(
     element: &RawElem<'b>,
 ) -> Result<Test<'b>, SheetFault>
     requires { MustHave (see.name element.now.name) (plain (codes "test")) forms.test }
-    ensures ok { IfOk result (λ t. phrases.Required (texts.TestText (scope_of element.now)) (phrases.value_of (codes "test") (attributes_of element.now)) (see.test t)) }
-    ensures no { IfErr result (λ e. Refuses e (alone element.now) (HasNoRequired element.now (codes "test") (texts.TestText (scope_of element.now)))) }
+    ensures ok { IfOk result
+        (λ t. phrases.Required (texts.TestText (scope_of element.now))
+        (phrases.value_of (codes "test") (attributes_of element.now)) (see.test t)) }
+    ensures no { IfErr result
+        (λ e. Refuses e (alone element.now)
+        (HasNoRequired element.now (codes "test") (texts.TestText (scope_of element.now)))) }
 {
     let Some(attribute) = attribute_of(element, "test") else {
         return Err(SheetFault::Malformed(element.place));
@@ -241,8 +280,11 @@ pub(crate) fn required_test<'b>(
 /// Takes the `select` of an `xsl:copy-of`, which selects attributes alone (XSLT 1.0, 11.3).
 pub(crate) fn required_attributes(arena: &Bump, element: &RawElem<'_>) -> Result<(), SheetFault>
     requires { IsXsl (codes "copy-of") (see.name element.now.name) }
-    ensures ok { OnOk result (HasAttributesText (scope_of element.now) (attributes_of element.now)) }
-    ensures no { IfErr result (λ e. Refuses e (alone element.now) (HasNoAttributes element.now (HasAttributesText (scope_of element.now)))) }
+    ensures ok { OnOk result
+        (HasAttributesText (scope_of element.now) (attributes_of element.now)) }
+    ensures no { IfErr result
+        (λ e. Refuses e (alone element.now)
+        (HasNoAttributes element.now (HasAttributesText (scope_of element.now)))) }
 {
     let Some(attribute) = attribute_of(element, "select") else {
         return Err(SheetFault::Malformed(element.place));
@@ -265,8 +307,13 @@ pub(crate) fn optional_pattern<'b>(
     element: &RawElem<'b>,
 ) -> Result<Option<&'b [Alt<'b>]>, SheetFault>
     requires { IsXsl (codes "template") (see.name element.now.name) }
-    ensures ok { IfOk result (λ xs. phrases.Optional (texts.PatternText (scope_of element.now)) (phrases.value_of (codes "match") (attributes_of element.now)) (option_map (λ x. map alternative x.now) xs)) }
-    ensures no { IfErr result (λ e. Refuses e (alone element.now) (HasNoOptional element.now (codes "match") (texts.PatternText (scope_of element.now)))) }
+    ensures ok { IfOk result
+        (λ xs. phrases.Optional (texts.PatternText (scope_of element.now))
+        (phrases.value_of (codes "match") (attributes_of element.now))
+        (option_map (λ x. map alternative x.now) xs)) }
+    ensures no { IfErr result
+        (λ e. Refuses e (alone element.now)
+        (HasNoOptional element.now (codes "match") (texts.PatternText (scope_of element.now)))) }
 {
     let Some(attribute) = attribute_of(element, "match") else {
         return Ok(None);
@@ -280,8 +327,12 @@ pub(crate) fn optional_pattern<'b>(
 /// The `priority` in ten-thousandths, if there is one (XSLT 1.0, 5.5).
 pub(crate) fn optional_priority(element: &RawElem<'_>) -> Result<Option<i64>, SheetFault>
     requires { IsXsl (codes "template") (see.name element.now.name) }
-    ensures ok { IfOk result (phrases.Optional PriorityText (phrases.value_of (codes "priority") (attributes_of element.now))) }
-    ensures no { IfErr result (λ e. Refuses e (alone element.now) (HasNoOptional element.now (codes "priority") PriorityText)) }
+    ensures ok { IfOk result
+        (phrases.Optional PriorityText
+        (phrases.value_of (codes "priority") (attributes_of element.now))) }
+    ensures no { IfErr result
+        (λ e. Refuses e (alone element.now)
+        (HasNoOptional element.now (codes "priority") PriorityText)) }
 {
     let Some(attribute) = attribute_of(element, "priority") else {
         return Ok(None);
@@ -295,7 +346,8 @@ pub(crate) fn optional_priority(element: &RawElem<'_>) -> Result<Option<i64>, Sh
 
 /// The namespace name to which a prefix is bound.
 fn namespace_of<'b>(scope: &[Binding<'b>], prefix: &str) -> Option<&'b str>
-    ensures { MatchOption result (uri_of (map see.bound scope.now) prefix.now ≡ None) (λ uri. uri_of (map see.bound scope.now) prefix.now ≡ Some uri.now) }
+    ensures { MatchOption result (uri_of (map see.bound scope.now) prefix.now ≡ None)
+        (λ uri. uri_of (map see.bound scope.now) prefix.now ≡ Some uri.now) }
 {
     for binding in scope {
         if binding.prefix == prefix {
@@ -307,7 +359,8 @@ fn namespace_of<'b>(scope: &[Binding<'b>], prefix: &str) -> Option<&'b str>
 
 /// The QName that a text is.
 fn whole_name(text: &str) -> Option<QualifiedName<'_>>
-    ensures { MatchOption result ((n : names.QualifiedName) → names.QNameAt text.now n [] → ⊥) (λ n. names.QNameAt text.now (written_name n) []) }
+    ensures { MatchOption result ((n : names.QualifiedName) → names.QNameAt text.now n [] → ⊥)
+        (λ n. names.QNameAt text.now (written_name n) []) }
 {
     let (name, rest) = qname(text)?;
     if rest.is_empty() { Some(name) } else { None }
@@ -315,7 +368,9 @@ fn whole_name(text: &str) -> Option<QualifiedName<'_>>
 
 /// The name of a mode or of a template: without a prefix it has no namespace (XSLT 1.0, 2.4).
 fn name_of<'b>(scope: &[Binding<'b>], text: &'b str) -> Option<Name<'b>>
-    ensures { MatchOption result ((n : ExpandedName) → phrases.NameText (map see.bound scope.now) text.now n → ⊥) (λ n. phrases.NameText (map see.bound scope.now) text.now (see.name n)) }
+    ensures { MatchOption result
+        ((n : ExpandedName) → phrases.NameText (map see.bound scope.now) text.now n → ⊥)
+        (λ n. phrases.NameText (map see.bound scope.now) text.now (see.name n)) }
 {
     let QualifiedName { prefix, local } = whole_name(text)?;
     if prefix.is_empty() {
@@ -329,7 +384,9 @@ fn name_of<'b>(scope: &[Binding<'b>], text: &'b str) -> Option<Name<'b>>
 
 /// The name of an element: without a prefix it takes the default namespace (XSLT 1.0, 7.1.2).
 fn element_name_of<'b>(scope: &[Binding<'b>], text: &'b str) -> Option<Name<'b>>
-    ensures { MatchOption result ((n : ExpandedName) → phrases.ElementNameText (map see.bound scope.now) text.now n → ⊥) (λ n. phrases.ElementNameText (map see.bound scope.now) text.now (see.name n)) }
+    ensures { MatchOption result
+        ((n : ExpandedName) → phrases.ElementNameText (map see.bound scope.now) text.now n → ⊥)
+        (λ n. phrases.ElementNameText (map see.bound scope.now) text.now (see.name n)) }
 {
     let QualifiedName { prefix, local } = whole_name(text)?;
     match namespace_of(scope, prefix) {
@@ -346,8 +403,12 @@ pub(crate) fn optional_name<'b>(
 ) -> Result<Option<Name<'b>>, SheetFault>
     requires kept { IsFalse (list_any (bytes_eq local.now) exchanged) }
     requires unrefused { IsNeverRefused local.now (see.name element.now.name) }
-    ensures ok { IfOk result (λ n. phrases.Optional (phrases.NameText (scope_of element.now)) (phrases.value_of local.now (attributes_of element.now)) (option_map see.name n)) }
-    ensures no { IfErr result (λ e. Refuses e (alone element.now) (HasNoOptional element.now local.now (phrases.NameText (scope_of element.now)))) }
+    ensures ok { IfOk result
+        (λ n. phrases.Optional (phrases.NameText (scope_of element.now))
+        (phrases.value_of local.now (attributes_of element.now)) (option_map see.name n)) }
+    ensures no { IfErr result
+        (λ e. Refuses e (alone element.now)
+        (HasNoOptional element.now local.now (phrases.NameText (scope_of element.now)))) }
 {
     let Some(attribute) = attribute_of(element, local) else {
         return Ok(None);
@@ -361,8 +422,12 @@ pub(crate) fn optional_name<'b>(
 /// The name of the template that is called (XSLT 1.0, 6).
 pub(crate) fn required_name<'b>(element: &RawElem<'b>) -> Result<Name<'b>, SheetFault>
     requires { IsXsl (codes "call-template") (see.name element.now.name) }
-    ensures ok { IfOk result (λ n. phrases.Required (phrases.NameText (scope_of element.now)) (phrases.value_of (codes "name") (attributes_of element.now)) (see.name n)) }
-    ensures no { IfErr result (λ e. Refuses e (alone element.now) (HasNoRequired element.now (codes "name") (phrases.NameText (scope_of element.now)))) }
+    ensures ok { IfOk result
+        (λ n. phrases.Required (phrases.NameText (scope_of element.now))
+        (phrases.value_of (codes "name") (attributes_of element.now)) (see.name n)) }
+    ensures no { IfErr result
+        (λ e. Refuses e (alone element.now)
+        (HasNoRequired element.now (codes "name") (phrases.NameText (scope_of element.now)))) }
 {
     let Some(attribute) = attribute_of(element, "name") else {
         return Err(SheetFault::Malformed(element.place));
@@ -388,8 +453,13 @@ fn has_brace(text: &str) -> bool
 /// The name of the element that an `xsl:element` makes (XSLT 1.0, 7.1.2).
 pub(crate) fn required_element_name<'b>(element: &RawElem<'b>) -> Result<Name<'b>, SheetFault>
     requires { IsXsl (codes "element") (see.name element.now.name) }
-    ensures ok { IfOk result (λ n. phrases.Required (phrases.ElementNameText (scope_of element.now)) (phrases.value_of (codes "name") (attributes_of element.now)) (see.name n)) }
-    ensures no { IfErr result (λ e. Refuses e (alone element.now) (HasNoRequired element.now (codes "name") (phrases.ElementNameText (scope_of element.now)))) }
+    ensures ok { IfOk result
+        (λ n. phrases.Required (phrases.ElementNameText (scope_of element.now))
+        (phrases.value_of (codes "name") (attributes_of element.now)) (see.name n)) }
+    ensures no { IfErr result
+        (λ e. Refuses e (alone element.now)
+        (HasNoRequired element.now (codes "name")
+        (phrases.ElementNameText (scope_of element.now)))) }
 {
     let Some(attribute) = attribute_of(element, "name") else {
         return Err(SheetFault::Malformed(element.place));
@@ -410,7 +480,8 @@ pub(crate) fn xsl_attribute<'e, 'b>(
 ) -> Option<&'e RawAttr<'b>>
     ensures has { IfSome result (λ a. Contains (attributes_of element.now) (see.attribute a.now)) }
     ensures name { IfSome result (λ a. IsXsl local.now (see.attribute a.now).name) }
-    ensures none { IfNone result (All (λ a. IsXsl local.now a.name → ⊥) (attributes_of element.now)) }
+    ensures none { IfNone result
+        (All (λ a. IsXsl local.now a.name → ⊥) (attributes_of element.now)) }
 {
     for attribute in element.attrs {
         if is_xsl(&attribute.name, local) {

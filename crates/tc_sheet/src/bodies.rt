@@ -29,7 +29,9 @@ use tc_model::{Instr, Name, NodeTest, Path, Raw, RawElem, Step, Test, is_white_s
 /// Checks that these are texts of white space alone (XSLT 1.0, 3.4).
 fn check_blank(kids: &[Raw<'_>]) -> Result<(), SheetFault>
     ensures ok { OnOk result (phrases.IsBlank (see.raw_trees kids.now)) }
-    ensures no { IfErr result (λ e. Refuses e (IsIn in_blank (see.raw_trees kids.now)) (IsNotBlank (see.raw_trees kids.now))) }
+    ensures no { IfErr result
+        (λ e. Refuses e (IsIn in_blank (see.raw_trees kids.now))
+        (IsNotBlank (see.raw_trees kids.now))) }
 {
     for kid in kids {
         match kid {
@@ -47,7 +49,9 @@ fn check_blank(kids: &[Raw<'_>]) -> Result<(), SheetFault>
 /// The characters of an `xsl:text` (XSLT 1.0, 7.2).
 fn characters<'b>(arena: &'b Bump, kids: &[Raw<'b>]) -> Result<&'b str, SheetFault>
     ensures ok { IfOk result (λ s. phrases.AreCharacters (see.raw_trees kids.now) s.now) }
-    ensures no { IfErr result (λ e. Refuses e (IsIn in_blank (see.raw_trees kids.now)) (HasNoCharacters (see.raw_trees kids.now))) }
+    ensures no { IfErr result
+        (λ e. Refuses e (IsIn in_blank (see.raw_trees kids.now))
+        (HasNoCharacters (see.raw_trees kids.now))) }
 {
     let mut all = String::new(arena);
     for kid in kids {
@@ -107,7 +111,9 @@ pub(crate) enum Begun<'b> {
 fn apply_templates<'b>(arena: &'b Bump, element: &RawElem<'b>) -> Result<Begun<'b>, SheetFault>
     requires { IsXsl (codes "apply-templates") (see.name element.now.name) }
     ensures ok { IfOk result (IsBegunBy phrases.i_apply element.now) }
-    ensures no { IfErr result (λ e. Refuses e (IsIn in_body (see.raw_element element.now raws.none)) (HasNoInstruction phrases.i_apply element.now)) }
+    ensures no { IfErr result
+        (λ e. Refuses e (IsIn in_body (see.raw_element element.now raws.none))
+        (HasNoInstruction phrases.i_apply element.now)) }
 {
     only_attributes(element, &["select", "mode"])?;
     let path = optional_select(arena, element)?;
@@ -120,7 +126,9 @@ fn apply_templates<'b>(arena: &'b Bump, element: &RawElem<'b>) -> Result<Begun<'
 fn call_template<'b>(element: &RawElem<'b>) -> Result<Begun<'b>, SheetFault>
     requires { IsXsl (codes "call-template") (see.name element.now.name) }
     ensures ok { IfOk result (IsBegunBy phrases.i_call element.now) }
-    ensures no { IfErr result (λ e. Refuses e (IsIn in_body (see.raw_element element.now raws.none)) (HasNoInstruction phrases.i_call element.now)) }
+    ensures no { IfErr result
+        (λ e. Refuses e (IsIn in_body (see.raw_element element.now raws.none))
+        (HasNoInstruction phrases.i_call element.now)) }
 {
     only_attributes(element, &["name"])?;
     let name = required_name(element)?;
@@ -132,7 +140,9 @@ fn call_template<'b>(element: &RawElem<'b>) -> Result<Begun<'b>, SheetFault>
 fn value_of<'b>(arena: &'b Bump, element: &RawElem<'b>) -> Result<Begun<'b>, SheetFault>
     requires { IsXsl (codes "value-of") (see.name element.now.name) }
     ensures ok { IfOk result (IsBegunBy phrases.i_value element.now) }
-    ensures no { IfErr result (λ e. Refuses e (IsIn in_body (see.raw_element element.now raws.none)) (HasNoInstruction phrases.i_value element.now)) }
+    ensures no { IfErr result
+        (λ e. Refuses e (IsIn in_body (see.raw_element element.now raws.none))
+        (HasNoInstruction phrases.i_value element.now)) }
 {
     only_attributes(element, &["select"])?;
     let value = required_value(arena, element)?;
@@ -147,7 +157,9 @@ fn value_of<'b>(arena: &'b Bump, element: &RawElem<'b>) -> Result<Begun<'b>, She
 fn text<'b>(arena: &'b Bump, element: &RawElem<'b>) -> Result<Begun<'b>, SheetFault>
     requires { IsXsl (codes "text") (see.name element.now.name) }
     ensures ok { IfOk result (IsBegunBy phrases.i_text element.now) }
-    ensures no { IfErr result (λ e. Refuses e (IsIn in_body (see.raw_element element.now raws.none)) (HasNoInstruction phrases.i_text element.now)) }
+    ensures no { IfErr result
+        (λ e. Refuses e (IsIn in_body (see.raw_element element.now raws.none))
+        (HasNoInstruction phrases.i_text element.now)) }
 {
     only_attributes(element, &[])?;
     let text = characters(arena, element.kids)?;
@@ -158,7 +170,9 @@ fn text<'b>(arena: &'b Bump, element: &RawElem<'b>) -> Result<Begun<'b>, SheetFa
 fn copy_of<'b>(arena: &'b Bump, element: &RawElem<'b>) -> Result<Begun<'b>, SheetFault>
     requires { IsXsl (codes "copy-of") (see.name element.now.name) }
     ensures ok { IfOk result (IsBegunBy phrases.i_copy_of element.now) }
-    ensures no { IfErr result (λ e. Refuses e (IsIn in_body (see.raw_element element.now raws.none)) (HasNoInstruction phrases.i_copy_of element.now)) }
+    ensures no { IfErr result
+        (λ e. Refuses e (IsIn in_body (see.raw_element element.now raws.none))
+        (HasNoInstruction phrases.i_copy_of element.now)) }
 {
     only_attributes(element, &["select"])?;
     required_attributes(arena, element)?;
@@ -170,7 +184,9 @@ fn copy_of<'b>(arena: &'b Bump, element: &RawElem<'b>) -> Result<Begun<'b>, Shee
 fn for_each<'b>(arena: &'b Bump, element: &RawElem<'b>) -> Result<Begun<'b>, SheetFault>
     requires { IsXsl (codes "for-each") (see.name element.now.name) }
     ensures ok { IfOk result (IsBegunBy phrases.i_each element.now) }
-    ensures no { IfErr result (λ e. Refuses e (IsIn in_body (see.raw_element element.now raws.none)) (HasNoInstruction phrases.i_each element.now)) }
+    ensures no { IfErr result
+        (λ e. Refuses e (IsIn in_body (see.raw_element element.now raws.none))
+        (HasNoInstruction phrases.i_each element.now)) }
 {
     only_attributes(element, &["select"])?;
     let path = required_select(arena, element)?;
@@ -181,7 +197,8 @@ fn for_each<'b>(arena: &'b Bump, element: &RawElem<'b>) -> Result<Begun<'b>, She
 fn test_of<'b>(arena: &'b Bump, element: &RawElem<'b>) -> Result<Test<'b>, SheetFault>
     requires xslt { (see.name element.now.name).uri ≡ xsl_uri }
     requires test { MustHave (see.name element.now.name) (plain (codes "test")) forms.test }
-    ensures ok { IfOk result (λ t. HasTest (scope_of element.now) (attributes_of element.now) (see.test t)) }
+    ensures ok { IfOk result
+        (λ t. HasTest (scope_of element.now) (attributes_of element.now) (see.test t)) }
     ensures no { IfErr result (λ e. Refuses e (alone element.now) (HasNoTest element.now)) }
 {
     only_attributes(element, &["test"])?;
@@ -192,7 +209,9 @@ fn test_of<'b>(arena: &'b Bump, element: &RawElem<'b>) -> Result<Test<'b>, Sheet
 fn begin_if<'b>(arena: &'b Bump, element: &RawElem<'b>) -> Result<Begun<'b>, SheetFault>
     requires { IsXsl (codes "if") (see.name element.now.name) }
     ensures ok { IfOk result (IsBegunBy phrases.i_if element.now) }
-    ensures no { IfErr result (λ e. Refuses e (IsIn in_body (see.raw_element element.now raws.none)) (HasNoInstruction phrases.i_if element.now)) }
+    ensures no { IfErr result
+        (λ e. Refuses e (IsIn in_body (see.raw_element element.now raws.none))
+        (HasNoInstruction phrases.i_if element.now)) }
 {
     let test = test_of(arena, element)?;
     Ok(Begun::Around(Head::If(test)))
@@ -202,7 +221,9 @@ fn begin_if<'b>(arena: &'b Bump, element: &RawElem<'b>) -> Result<Begun<'b>, She
 fn begin_choose<'b>(element: &RawElem<'b>) -> Result<Begun<'b>, SheetFault>
     requires { IsXsl (codes "choose") (see.name element.now.name) }
     ensures ok { IfOk result (IsBegunBy phrases.i_choose element.now) }
-    ensures no { IfErr result (λ e. Refuses e (IsIn in_body (see.raw_element element.now raws.none)) (HasNoInstruction phrases.i_choose element.now)) }
+    ensures no { IfErr result
+        (λ e. Refuses e (IsIn in_body (see.raw_element element.now raws.none))
+        (HasNoInstruction phrases.i_choose element.now)) }
 {
     only_attributes(element, &[])?;
     Ok(Begun::Choose)
@@ -212,7 +233,9 @@ fn begin_choose<'b>(element: &RawElem<'b>) -> Result<Begun<'b>, SheetFault>
 fn begin_copy<'b>(element: &RawElem<'b>) -> Result<Begun<'b>, SheetFault>
     requires { IsXsl (codes "copy") (see.name element.now.name) }
     ensures ok { IfOk result (IsBegunBy phrases.i_copy element.now) }
-    ensures no { IfErr result (λ e. Refuses e (IsIn in_body (see.raw_element element.now raws.none)) (HasNoInstruction phrases.i_copy element.now)) }
+    ensures no { IfErr result
+        (λ e. Refuses e (IsIn in_body (see.raw_element element.now raws.none))
+        (HasNoInstruction phrases.i_copy element.now)) }
 {
     only_attributes(element, &[])?;
     Ok(Begun::Around(Head::Copy))
@@ -222,7 +245,9 @@ fn begin_copy<'b>(element: &RawElem<'b>) -> Result<Begun<'b>, SheetFault>
 fn begin_element<'b>(element: &RawElem<'b>) -> Result<Begun<'b>, SheetFault>
     requires { IsXsl (codes "element") (see.name element.now.name) }
     ensures ok { IfOk result (IsBegunBy phrases.i_element element.now) }
-    ensures no { IfErr result (λ e. Refuses e (IsIn in_body (see.raw_element element.now raws.none)) (HasNoInstruction phrases.i_element element.now)) }
+    ensures no { IfErr result
+        (λ e. Refuses e (IsIn in_body (see.raw_element element.now raws.none))
+        (HasNoInstruction phrases.i_element element.now)) }
 {
     only_attributes(element, &["name"])?;
     let name = required_element_name(element)?;
@@ -235,9 +260,12 @@ fn begin_instruction<'b>(
     instruction: Instruction,
     element: &RawElem<'b>,
 ) -> Result<Begun<'b>, SheetFault>
-    requires { phrases.instruction_of (see.name element.now.name) ≡ Some (instruction_seen instruction) }
+    requires { phrases.instruction_of (see.name element.now.name)
+        ≡ Some (instruction_seen instruction) }
     ensures ok { IfOk result (IsBegunBy (instruction_seen instruction) element.now) }
-    ensures no { IfErr result (λ e. Refuses e (IsIn in_body (see.raw_element element.now raws.none)) (HasNoInstruction (instruction_seen instruction) element.now)) }
+    ensures no { IfErr result
+        (λ e. Refuses e (IsIn in_body (see.raw_element element.now raws.none))
+        (HasNoInstruction (instruction_seen instruction) element.now)) }
 {
     match instruction {
         Instruction::ApplyTemplates => apply_templates(arena, element),
@@ -257,7 +285,9 @@ fn begin_instruction<'b>(
 /// Reads the start of an element of a body (XSLT 1.0, 7.1.1).
 fn begin<'b>(arena: &'b Bump, element: &RawElem<'b>) -> Result<Begun<'b>, SheetFault>
     ensures ok { IfOk result (IsBegun element.now) }
-    ensures no { IfErr result (λ e. Refuses e (IsIn in_body (see.raw_element element.now raws.none)) (HasNoElementItem element.now)) }
+    ensures no { IfErr result
+        (λ e. Refuses e (IsIn in_body (see.raw_element element.now raws.none))
+        (HasNoElementItem element.now)) }
 {
     if !is_xslt(&element.name) {
         check_literal_attributes(element)?;
@@ -275,7 +305,8 @@ fn instruction_with_body<'b>(
     head: Head<'b>,
     inner: &'b [Written<'b>],
 ) -> Result<Option<Written<'b>>, SheetFault>
-    ensures ok { IfOk result (λ w. (rest : trees.WrittenBody) → put w rest ≡ around_seen head.entry (body_of inner.now) rest) }
+    ensures ok { IfOk result (λ w. (rest : trees.WrittenBody) → put w rest
+        ≡ around_seen head.entry (body_of inner.now) rest) }
     ensures no { IfErr result (λ e. e ≡ faults.NoMemory) }
 {
     match head {
@@ -296,7 +327,11 @@ fn instruction_with_body<'b>(
 #[cycle(body)]
 fn when<'b>(arena: &'b Bump, element: &RawElem<'b>) -> Result<WrittenBranch<'b>, SheetFault>
     requires { IsXsl (codes "when") (see.name element.now.name) }
-    ensures { MatchResult result (λ b. IsTested (tag_of element.now) (see.raw_trees element.now.kids.now) (see.test b.test) (body_of b.body.now)) (λ e. Refuses e (IsIn in_choose (see.raw_element element.now raws.none)) (HasNoTested element.now)) }
+    ensures { MatchResult result
+        (λ b. IsTested (tag_of element.now) (see.raw_trees element.now.kids.now) (see.test b.test)
+        (body_of b.body.now))
+        (λ e. Refuses e (IsIn in_choose (see.raw_element element.now raws.none))
+        (HasNoTested element.now)) }
 {
     let test = test_of(arena, element)?;
     let body = body(arena, element.kids)?;
@@ -311,7 +346,11 @@ fn otherwise<'b>(
     after: &[Raw<'b>],
 ) -> Result<&'b [Written<'b>], SheetFault>
     requires { IsXsl (codes "otherwise") (see.name element.now.name) }
-    ensures { MatchResult result (λ b. phrases.AreBranches (see.raw_element element.now (see.raw_trees after.now)) (trees.w_otherwise (body_of b.now))) (λ e. Refuses e (IsIn in_choose (see.raw_element element.now (see.raw_trees after.now))) (HasNoBranches (see.raw_element element.now (see.raw_trees after.now)))) }
+    ensures { MatchResult result
+        (λ b. phrases.AreBranches (see.raw_element element.now (see.raw_trees after.now))
+        (trees.w_otherwise (body_of b.now)))
+        (λ e. Refuses e (IsIn in_choose (see.raw_element element.now (see.raw_trees after.now)))
+        (HasNoBranches (see.raw_element element.now (see.raw_trees after.now)))) }
 {
     only_attributes(element, &[])?;
     let inner = body(arena, element.kids)?;
@@ -321,8 +360,12 @@ fn otherwise<'b>(
 
 /// Whether an element of an `xsl:choose` is an `xsl:otherwise`, and not an `xsl:when`.
 fn is_otherwise(element: &RawElem<'_>) -> Result<bool, SheetFault>
-    ensures ok { IfOk result (λ b. MatchBool b (IsXsl (codes "otherwise") (see.name element.now.name)) (IsXsl (codes "when") (see.name element.now.name))) }
-    ensures no { IfErr result (λ e. Refuses e (IsIn in_choose (see.raw_element element.now raws.none)) (λ c. (rest : raws.RawTrees) → HasNoBranches (see.raw_element element.now rest) c)) }
+    ensures ok { IfOk result
+        (λ b. MatchBool b (IsXsl (codes "otherwise") (see.name element.now.name))
+        (IsXsl (codes "when") (see.name element.now.name))) }
+    ensures no { IfErr result
+        (λ e. Refuses e (IsIn in_choose (see.raw_element element.now raws.none))
+        (λ c. (rest : raws.RawTrees) → HasNoBranches (see.raw_element element.now rest) c)) }
 {
     if is_xsl(&element.name, "when") {
         Ok(false)
@@ -342,7 +385,11 @@ fn read_branches<'b>(
     found: &mut Vec<WrittenBranch<'b>, &'b Bump>,
 ) -> Result<&'b [Written<'b>], SheetFault>
     requires { found.old.items ≡ [] }
-    ensures { MatchResult result (λ r. phrases.AreBranches (see.raw_trees kids.now) (branches_before found.new.items (trees.w_otherwise (body_of r.now)))) (λ e. Refuses e (IsIn in_choose (see.raw_trees kids.now)) (HasNoBranches (see.raw_trees kids.now))) }
+    ensures { MatchResult result
+        (λ r. phrases.AreBranches (see.raw_trees kids.now)
+        (branches_before found.new.items (trees.w_otherwise (body_of r.now))))
+        (λ e. Refuses e (IsIn in_choose (see.raw_trees kids.now))
+        (HasNoBranches (see.raw_trees kids.now))) }
 {
     for at in 0..kids.len() {
         let kid = &kids[at];
@@ -373,9 +420,12 @@ fn chosen<'b>(
 ) -> Result<Option<Written<'b>>, SheetFault>
     requires choose { phrases.instruction_of (see.name element.now.name) ≡ Some phrases.i_choose }
     requires only { phrases.HasOnly [] (attributes_of element.now) }
-    requires held { phrases.AreBranches (see.raw_trees element.now.kids.now) (branches_before branches.now (trees.w_otherwise (body_of last.now))) }
+    requires held { phrases.AreBranches (see.raw_trees element.now.kids.now)
+        (branches_before branches.now (trees.w_otherwise (body_of last.now))) }
     ensures ok { IfOk result (λ w. IsElementItem element.now (put w)) }
-    ensures no { IfErr result (λ e. Refuses e (IsIn in_body (see.raw_element element.now raws.none)) (HasNoElementItem element.now)) }
+    ensures no { IfErr result
+        (λ e. Refuses e (IsIn in_body (see.raw_element element.now raws.none))
+        (HasNoElementItem element.now)) }
 {
     if branches.is_empty() {
         return Err(SheetFault::Malformed(element.place));
@@ -388,7 +438,9 @@ fn chosen<'b>(
 fn choose<'b>(arena: &'b Bump, element: &RawElem<'b>) -> Result<Option<Written<'b>>, SheetFault>
     requires choose { phrases.instruction_of (see.name element.now.name) ≡ Some phrases.i_choose }
     requires only { phrases.HasOnly [] (attributes_of element.now) }
-    ensures { MatchResult result (λ w. IsElementItem element.now (put w)) (λ e. Refuses e (IsIn in_body (see.raw_element element.now raws.none)) (HasNoElementItem element.now)) }
+    ensures { MatchResult result (λ w. IsElementItem element.now (put w))
+        (λ e. Refuses e (IsIn in_body (see.raw_element element.now raws.none))
+        (HasNoElementItem element.now)) }
 {
     let mut found = Vec::new(arena);
     let last = read_branches(arena, element.kids, &mut found)?;
@@ -401,7 +453,9 @@ fn element_of_body<'b>(
     arena: &'b Bump,
     element: &RawElem<'b>,
 ) -> Result<Option<Written<'b>>, SheetFault>
-    ensures { MatchResult result (λ w. IsElementItem element.now (put w)) (λ e. Refuses e (IsIn in_body (see.raw_element element.now raws.none)) (HasNoElementItem element.now)) }
+    ensures { MatchResult result (λ w. IsElementItem element.now (put w))
+        (λ e. Refuses e (IsIn in_body (see.raw_element element.now raws.none))
+        (HasNoElementItem element.now)) }
 {
     let begun = begin(arena, element)?;
     match begun {
@@ -417,7 +471,8 @@ fn element_of_body<'b>(
 /// Reads what stands in a body, which makes nothing where it is white space or of attributes.
 #[cycle(body)]
 fn item<'b>(arena: &'b Bump, kid: &Raw<'b>) -> Result<Option<Written<'b>>, SheetFault>
-    ensures { MatchResult result (λ w. IsItem kid.now (put w)) (λ e. Refuses e (IsIn in_body (see.raw_tree kid.now)) (HasNoItem kid.now)) }
+    ensures { MatchResult result (λ w. IsItem kid.now (put w))
+        (λ e. Refuses e (IsIn in_body (see.raw_tree kid.now)) (HasNoItem kid.now)) }
 {
     match kid {
         Raw::Text(text, _) => {
@@ -436,7 +491,8 @@ fn put_read<'b>(
     found: &mut Vec<Written<'b>, &'b Bump>,
     read: Option<Written<'b>>,
 ) -> Result<(), SheetFault>
-    ensures ok { OnOk result ((rest : trees.WrittenBody) → written_before found.new.items rest ≡ written_before found.old.items (put read.entry rest)) }
+    ensures ok { OnOk result ((rest : trees.WrittenBody) → written_before found.new.items rest
+        ≡ written_before found.old.items (put read.entry rest)) }
     ensures no { IfErr result (λ e. e ≡ faults.NoMemory) }
 {
     match read {
@@ -451,7 +507,9 @@ fn put_read<'b>(
 /// Reads a body.
 #[cycle(body)]
 pub(crate) fn body<'b>(arena: &'b Bump, kids: &[Raw<'b>]) -> Result<&'b [Written<'b>], SheetFault>
-    ensures { MatchResult result (λ b. phrases.IsBody (see.raw_trees kids.now) (body_of b.now)) (λ e. Refuses e (IsIn in_body (see.raw_trees kids.now)) (HasNoBody (see.raw_trees kids.now))) }
+    ensures { MatchResult result (λ b. phrases.IsBody (see.raw_trees kids.now) (body_of b.now))
+        (λ e. Refuses e (IsIn in_body (see.raw_trees kids.now))
+        (HasNoBody (see.raw_trees kids.now))) }
 {
     let mut found = Vec::new(arena);
     for kid in kids {

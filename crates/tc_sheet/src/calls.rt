@@ -42,7 +42,8 @@ fn put_calls_of_branches<'b>(
     sites: &mut Vec<Site<'b>, &'b Bump>,
     branches: &[WrittenBranch<'b>],
 ) -> Result<(), SheetFault>
-    ensures ok { OnOk result (map seen_site sites.new.items ≡ map seen_site sites.old.items ++ model.calls_in_branches (branches_of branches.now)) }
+    ensures ok { OnOk result (map seen_site sites.new.items ≡ map seen_site sites.old.items
+        ++ model.calls_in_branches (branches_of branches.now)) }
     ensures no { IfErr result (λ e. e ≡ NoMemory) }
 {
     for branch in branches {
@@ -58,7 +59,8 @@ fn put_calls_of_one<'b>(
     sites: &mut Vec<Site<'b>, &'b Bump>,
     instruction: &Written<'b>,
 ) -> Result<(), SheetFault>
-    ensures ok { OnOk result (map seen_site sites.new.items ≡ map seen_site sites.old.items ++ model.calls_in_body (alone (written instruction.now))) }
+    ensures ok { OnOk result (map seen_site sites.new.items ≡ map seen_site sites.old.items
+        ++ model.calls_in_body (alone (written instruction.now))) }
     ensures no { IfErr result (λ e. e ≡ NoMemory) }
 {
     match instruction {
@@ -88,7 +90,8 @@ fn put_calls<'b>(
     sites: &mut Vec<Site<'b>, &'b Bump>,
     body: &[Written<'b>],
 ) -> Result<(), SheetFault>
-    ensures ok { OnOk result (map seen_site sites.new.items ≡ map seen_site sites.old.items ++ model.calls_in_body (body_seen body.now)) }
+    ensures ok { OnOk result (map seen_site sites.new.items ≡ map seen_site sites.old.items
+        ++ model.calls_in_body (body_seen body.now)) }
     ensures no { IfErr result (λ e. e ≡ NoMemory) }
 {
     for instruction in body {
@@ -104,7 +107,8 @@ fn put_calls<'b>(
 /// Undefined where there is none.
 fn callee(names: &Names<'_>, site: &Site<'_>) -> Result<usize, SheetFault>
     ensures ok { IfOk result (λ k. k ≡ callee_of (names_seen names.now) (seen_site site.now)) }
-    ensures first { OnOk result (first_undefined (names_seen names.now) (seen_site site.now ∷ []) ≡ None) }
+    ensures first { OnOk result
+        (first_undefined (names_seen names.now) (seen_site site.now ∷ []) ≡ None) }
     ensures no { IfErr result (IsFirstUndefined (names_seen names.now) (seen_site site.now ∷ [])) }
 {
     match names.get_index_of(&site.name) {
@@ -125,9 +129,12 @@ fn put_numbered<'b>(
     sites: &[Site<'b>],
     calls: &mut Vec<Call, &'b Bump>,
 ) -> Result<&'b [usize], SheetFault>
-    ensures row { IfOk result (λ r. r.now ≡ map (callee_of (names_seen names.now)) (map seen_site sites.now)) }
-    ensures put { OnOk result (map seen_call calls.new.items ≡ map seen_call calls.old.items ++ map (numbered_from (names_seen names.now) caller) (map seen_site sites.now)) }
-    ensures first { OnOk result (first_undefined (names_seen names.now) (map seen_site sites.now) ≡ None) }
+    ensures row { IfOk result
+        (λ r. r.now ≡ map (callee_of (names_seen names.now)) (map seen_site sites.now)) }
+    ensures put { OnOk result (map seen_call calls.new.items ≡ map seen_call calls.old.items
+        ++ map (numbered_from (names_seen names.now) caller) (map seen_site sites.now)) }
+    ensures first { OnOk result
+        (first_undefined (names_seen names.now) (map seen_site sites.now) ≡ None) }
     ensures no { IfErr result (IsFirstUndefined (names_seen names.now) (map seen_site sites.now)) }
 {
     let mut row = Vec::new(arena);
@@ -145,7 +152,8 @@ fn put_numbered<'b>(
 
 /// The number of a template, if it has a name.
 fn caller(names: &Names<'_>, template: &Template<'_>) -> Option<usize>
-    requires { All (λ n. list_any (same_name n) (names_seen names.now) ≡ true) (model.one_name (template_seen template.now).name) }
+    requires { All (λ n. list_any (same_name n) (names_seen names.now) ≡ true)
+        (model.one_name (template_seen template.now).name) }
     ensures { result ≡ caller_of (names_seen names.now) (template_seen template.now) }
 {
     match template.name {
@@ -160,7 +168,8 @@ fn put_row<'b>(
     template: &Template<'b>,
     row: &'b [usize],
 ) -> Result<(), SheetFault>
-    ensures ok { OnOk result (rows_of rows.new.items ≡ rows_of rows.old.items ++ map (λ n. row.now) (model.one_name (template_seen template.now).name)) }
+    ensures ok { OnOk result (rows_of rows.new.items ≡ rows_of rows.old.items
+        ++ map (λ n. row.now) (model.one_name (template_seen template.now).name)) }
     ensures no { IfErr result (λ e. e ≡ NoMemory) }
 {
     if template.name.is_some() {
@@ -191,11 +200,18 @@ fn put_template<'b>(
     rows: &mut Vec<&'b [usize], &'b Bump>,
     calls: &mut Vec<Call, &'b Bump>,
 ) -> Result<(), SheetFault>
-    requires { All (λ n. list_any (same_name n) (names_seen names.now) ≡ true) (model.one_name (template_seen template.now).name) }
-    ensures rows { OnOk result (rows_of rows.new.items ≡ rows_of rows.old.items ++ row_of (names_seen names.now) (template_seen template.now)) }
-    ensures put { OnOk result (map seen_call calls.new.items ≡ map seen_call calls.old.items ++ calls_from (names_seen names.now) (template_seen template.now)) }
-    ensures first { OnOk result (first_undefined (names_seen names.now) (model.calls_in_body (body_seen template.now.body.now)) ≡ None) }
-    ensures no { IfErr result (IsFirstUndefined (names_seen names.now) (model.calls_in_body (body_seen template.now.body.now))) }
+    requires { All (λ n. list_any (same_name n) (names_seen names.now) ≡ true)
+        (model.one_name (template_seen template.now).name) }
+    ensures rows { OnOk result (rows_of rows.new.items ≡ rows_of rows.old.items
+        ++ row_of (names_seen names.now) (template_seen template.now)) }
+    ensures put { OnOk result (map seen_call calls.new.items ≡ map seen_call calls.old.items
+        ++ calls_from (names_seen names.now) (template_seen template.now)) }
+    ensures first { OnOk result
+        (first_undefined (names_seen names.now)
+        (model.calls_in_body (body_seen template.now.body.now)) ≡ None) }
+    ensures no { IfErr result
+        (IsFirstUndefined (names_seen names.now)
+        (model.calls_in_body (body_seen template.now.body.now))) }
 {
     let sites = sites_of(arena, template.body)?;
     let caller = caller(names, template);
@@ -206,7 +222,8 @@ fn put_template<'b>(
 /// The place of the first call that leads back to the template in which it stands.
 fn first_loop(walk: &Walk<'_>, calls: &[Call]) -> Option<Place>
     requires { All (λ c. IsWithin (length walk.now.states.items) (seen_call c)) calls.now }
-    ensures { option_map see.place result ≡ first_back walk.now.states.items (map seen_call calls.now) }
+    ensures { option_map see.place result
+        ≡ first_back walk.now.states.items (map seen_call calls.now) }
 {
     for call in calls {
         if leads_back(walk, call) {
@@ -241,8 +258,12 @@ pub(crate) fn check_calls<'b>(
 ) -> Result<(), SheetFault>
     requires names { names_seen names.now ≡ model.names_of (map template_seen templates.now) }
     requires once { IsDistinct same_name (names_seen names.now) }
-    ensures defined { OnOk result (All (λ c. model.IsDefined (map template_seen templates.now) c.call) (model.calls_of (map template_seen templates.now))) }
-    ensures no_loop { OnOk result (All (λ c. model.IsLoop (map template_seen templates.now) c → ⊥) (model.calls_of (map template_seen templates.now))) }
+    ensures defined { OnOk result
+        (All (λ c. model.IsDefined (map template_seen templates.now) c.call)
+        (model.calls_of (map template_seen templates.now))) }
+    ensures no_loop { OnOk result
+        (All (λ c. model.IsLoop (map template_seen templates.now) c → ⊥)
+        (model.calls_of (map template_seen templates.now))) }
     ensures no { IfErr result (IsCallFault (map template_seen templates.now)) }
 {
     let mut rows = Vec::new(arena);

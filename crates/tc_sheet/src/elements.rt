@@ -33,21 +33,24 @@ pub(crate) enum Instruction {
 
 /// Whether a name is in the namespace of XSLT.
 pub(crate) fn is_xslt(name: &Name<'_>) -> bool
-    ensures { MatchBool result ((see.name name.now).uri ≡ xsl_uri) ((see.name name.now).uri ≢ xsl_uri) }
+    ensures { MatchBool result ((see.name name.now).uri ≡ xsl_uri)
+        ((see.name name.now).uri ≢ xsl_uri) }
 {
     name.uri == XSL
 }
 
 /// Whether a name is this one of the namespace of XSLT.
 pub(crate) fn is_xsl(name: &Name<'_>, local: &str) -> bool
-    ensures { MatchBool result (IsXsl local.now (see.name name.now)) (IsXsl local.now (see.name name.now) → ⊥) }
+    ensures { MatchBool result (IsXsl local.now (see.name name.now))
+        (IsXsl local.now (see.name name.now) → ⊥) }
 {
     name.uri == XSL && name.local == local
 }
 
 /// The instruction of this local name.
 fn instruction_in(local: &str) -> Option<Instruction>
-    ensures { option_map instruction result ≡ phrases.instruction_in phrases.instructions local.now }
+    ensures { option_map instruction result
+        ≡ phrases.instruction_in phrases.instructions local.now }
 {
     match local {
         "apply-templates" => Some(Instruction::ApplyTemplates),

@@ -35,7 +35,8 @@ use written::Template;
 
 /// Drops templates that have no name and no alternative left.
 fn used<'b>(arena: &'b Bump, templates: &[Template<'b>]) -> Result<&'b [Template<'b>], SheetFault>
-    ensures ok { IfOk result (λ r. map template_seen r.now ≡ filter is_used (map template_seen templates.now)) }
+    ensures ok { IfOk result
+        (λ r. map template_seen r.now ≡ filter is_used (map template_seen templates.now)) }
     ensures no { IfErr result (λ e. e ≡ SheetFault.NoMemory) }
 {
     let mut found = Vec::new(arena);
@@ -79,10 +80,16 @@ pub fn read_sheet<'b>(arena: &'b Bump, raw: &Raw<'b>) -> Result<Sheet<'b>, Sheet
     requires { IsOneElement (raw_tree raw.now) }
     ensures ok { IfOk result (λ r. SheetText (raw_tree raw.now) (sheet r)) }
     ensures cause { IfErr result (IsCause (raw_tree raw.now)) }
-    ensures unsupported { (changed : RawTrees) (s : sheets.Sheet) → Changed mended (raw_tree raw.now) changed → SheetText changed s → IfErr result IsUnsupported }
-    ensures deep { (changed : RawTrees) (s : sheets.Sheet) → Changed flattened (raw_tree raw.now) changed → SheetText changed s → IfErr result IsTooDeep }
-    ensures no_template { (p : ℕ) → SheetFails (raw_tree raw.now) undefined p → IfErr result (IsUndefinedAt p) }
-    ensures loops { (p : ℕ) → SheetFails (raw_tree raw.now) call_loop p → IfErr result (IsLoopAt p) }
+    ensures unsupported { (changed : RawTrees) (s : sheets.Sheet)
+        → Changed mended (raw_tree raw.now) changed → SheetText changed s
+        → IfErr result IsUnsupported }
+    ensures deep { (changed : RawTrees) (s : sheets.Sheet)
+        → Changed flattened (raw_tree raw.now) changed → SheetText changed s
+        → IfErr result IsTooDeep }
+    ensures no_template { (p : ℕ) → SheetFails (raw_tree raw.now) undefined p
+        → IfErr result (IsUndefinedAt p) }
+    ensures loops { (p : ℕ) → SheetFails (raw_tree raw.now) call_loop p
+        → IfErr result (IsLoopAt p) }
     ensures again { (p : ℕ) → NamesAgain (raw_tree raw.now) p → IfErr result (IsMalformedAt p) }
 {
     let Raw::Elem(element) = raw else {

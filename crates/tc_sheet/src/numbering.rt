@@ -52,7 +52,8 @@ fn next_number(count: usize) -> Result<u32, SheetFault>
 /// How many for-eaches stand in branches and before them.
 #[cycle(eaches)]
 fn eaches_in_branches(before: u32, branches: &[WrittenBranch<'_>]) -> Result<u32, SheetFault>
-    ensures ok { IfOk result (λ n. n ≡ before + model.eaches_in_branches (branches_of branches.now)) }
+    ensures ok { IfOk result
+        (λ n. n ≡ before + model.eaches_in_branches (branches_of branches.now)) }
     ensures no { IfErr result (λ e. e ≡ NoMemory) }
 {
     let mut count = before;
@@ -125,7 +126,8 @@ fn eaches_with_rules(before: u32, template: &Template<'_>) -> Result<u32, SheetF
 
 /// How many for-eaches stand in the templates that make rules.
 fn eaches_in_rules(templates: &[Template<'_>]) -> Result<u32, SheetFault>
-    ensures ok { IfOk result (λ n. n ≡ model.eaches_of (filter trees.makes_rules (map template_seen templates.now))) }
+    ensures ok { IfOk result
+        (λ n. n ≡ model.eaches_of (filter trees.makes_rules (map template_seen templates.now))) }
     ensures no { IfErr result (λ e. e ≡ NoMemory) }
 {
     let mut count = 0;
@@ -137,7 +139,9 @@ fn eaches_in_rules(templates: &[Template<'_>]) -> Result<u32, SheetFault>
 
 /// The number of a mode: that of the default one is 0. `modes_of` lists each, so that it is found.
 fn mode_number(tables: &Tables<'_, '_>, mode: Option<Name<'_>>) -> Result<u32, SheetFault>
-    ensures ok { IfOk result (λ n. n ≡ model.mode_number (names_seen tables.now.modes.now) (names_seen tables.now.names.now) (option_map see.name mode.entry)) }
+    ensures ok { IfOk result
+        (λ n. n ≡ model.mode_number (names_seen tables.now.modes.now)
+        (names_seen tables.now.names.now) (option_map see.name mode.entry)) }
     ensures no { IfErr result (λ e. e ≡ NoMemory) }
 {
     let Some(name) = mode else {
@@ -151,7 +155,8 @@ fn mode_number(tables: &Tables<'_, '_>, mode: Option<Name<'_>>) -> Result<u32, S
 
 /// The number of a named template. `check_calls` refuses calls of others, so that it is found.
 fn name_number(tables: &Tables<'_, '_>, name: &Name<'_>) -> Result<u32, SheetFault>
-    ensures ok { IfOk result (λ n. n ≡ number_of same_name (see.name name.now) (names_seen tables.now.names.now)) }
+    ensures ok { IfOk result
+        (λ n. n ≡ number_of same_name (see.name name.now) (names_seen tables.now.names.now)) }
     ensures no { IfErr result (λ e. e ≡ NoMemory) }
 {
     match tables.names.get_index_of(name) {
@@ -168,7 +173,15 @@ fn numbered_branches<'b>(
     branches: &[WrittenBranch<'b>],
     next: &mut u32,
 ) -> Result<&'b [Branch<'b>], SheetFault>
-    ensures { MatchResult result (λ r. ((rest : trees.WrittenBranches) → see.branches r.now (model.numbered_branches (names_seen tables.now.modes.now) (names_seen tables.now.names.now) next.new rest) ≡ model.numbered_branches (names_seen tables.now.modes.now) (names_seen tables.now.names.now) next.old (branches_before branches.now rest)) × (next.new ≡ next.old + model.eaches_in_branches (branches_of branches.now))) (λ e. e ≡ NoMemory) }
+    ensures { MatchResult result
+        (λ r. ((rest : trees.WrittenBranches)
+        → see.branches r.now
+        (model.numbered_branches (names_seen tables.now.modes.now)
+        (names_seen tables.now.names.now) next.new rest)
+        ≡ model.numbered_branches (names_seen tables.now.modes.now)
+        (names_seen tables.now.names.now) next.old (branches_before branches.now rest))
+        × (next.new ≡ next.old + model.eaches_in_branches (branches_of branches.now)))
+        (λ e. e ≡ NoMemory) }
 {
     let mut found = Vec::new(arena);
     for branch in branches {
@@ -201,7 +214,15 @@ fn numbered_one<'b>(
     instruction: &Written<'b>,
     next: &mut u32,
 ) -> Result<Instr<'b>, SheetFault>
-    ensures { MatchResult result (λ r. ((rest : trees.WrittenBody) → see.instruction r (model.numbered (names_seen tables.now.modes.now) (names_seen tables.now.names.now) next.new rest) ≡ model.numbered (names_seen tables.now.modes.now) (names_seen tables.now.names.now) next.old (written instruction.now rest)) × (next.new ≡ next.old + model.eaches_in (alone (written instruction.now)))) (λ e. e ≡ NoMemory) }
+    ensures { MatchResult result
+        (λ r. ((rest : trees.WrittenBody)
+        → see.instruction r
+        (model.numbered (names_seen tables.now.modes.now)
+        (names_seen tables.now.names.now) next.new rest)
+        ≡ model.numbered (names_seen tables.now.modes.now)
+        (names_seen tables.now.names.now) next.old (written instruction.now rest))
+        × (next.new ≡ next.old + model.eaches_in (alone (written instruction.now))))
+        (λ e. e ≡ NoMemory) }
 {
     match instruction {
         Written::Text(text) => Ok(Instr::Text(text)),
@@ -244,7 +265,11 @@ fn numbered<'b>(
     body: &[Written<'b>],
     next: &mut u32,
 ) -> Result<&'b [Instr<'b>], SheetFault>
-    ensures { MatchResult result (λ r. (see.body r.now ≡ model.numbered (names_seen tables.now.modes.now) (names_seen tables.now.names.now) next.old (body_seen body.now)) × (next.new ≡ next.old + model.eaches_in (body_seen body.now))) (λ e. e ≡ NoMemory) }
+    ensures { MatchResult result
+        (λ r. (see.body r.now
+        ≡ model.numbered (names_seen tables.now.modes.now)
+        (names_seen tables.now.names.now) next.old (body_seen body.now))
+        × (next.new ≡ next.old + model.eaches_in (body_seen body.now))) (λ e. e ≡ NoMemory) }
 {
     let mut found = Vec::new(arena);
     for instruction in body {
@@ -261,7 +286,10 @@ fn put_rules<'b>(
     mode: u32,
     body: &'b [Instr<'b>],
 ) -> Result<(), SheetFault>
-    ensures ok { OnOk result (map see.rule rules.new.items ≡ map see.rule rules.old.items ++ map (rule_from mode (see.body body.now)) (map alternative template.now.alternatives.now)) }
+    ensures ok { OnOk result
+        (map see.rule rules.new.items ≡ map see.rule rules.old.items
+        ++ map (rule_from mode (see.body body.now))
+        (map alternative template.now.alternatives.now)) }
     ensures no { IfErr result (λ e. e ≡ NoMemory) }
 {
     for alternative in template.alternatives {
@@ -283,7 +311,10 @@ fn body_of<'b>(
     in_rules: &mut u32,
     others: &mut u32,
 ) -> Result<&'b [Instr<'b>], SheetFault>
-    ensures { MatchResult result (λ r. IsNumberedBody (names_seen tables.now.modes.now) (names_seen tables.now.names.now) (template_seen template.now) (see.body r.now) in_rules.old in_rules.new others.old others.new) (λ e. e ≡ NoMemory) }
+    ensures { MatchResult result
+        (λ r. IsNumberedBody (names_seen tables.now.modes.now) (names_seen tables.now.names.now)
+        (template_seen template.now)
+        (see.body r.now) in_rules.old in_rules.new others.old others.new) (λ e. e ≡ NoMemory) }
 {
     if template.makes_rules() {
         numbered(arena, tables, template.body, in_rules)
@@ -298,7 +329,10 @@ fn put_named<'b>(
     template: &Template<'b>,
     body: &'b [Instr<'b>],
 ) -> Result<(), SheetFault>
-    ensures { MatchResult result (λ _. bodies named.new.items ≡ bodies named.old.items ++ map (λ n. see.body body.now) (model.one_name (template_seen template.now).name)) (λ e. e ≡ NoMemory) }
+    ensures { MatchResult result
+        (λ _. bodies named.new.items ≡ bodies named.old.items
+        ++ map (λ n. see.body body.now) (model.one_name (template_seen template.now).name))
+        (λ e. e ≡ NoMemory) }
 {
     if template.name.is_some() {
         named.push(body)?;
@@ -324,7 +358,12 @@ impl<'b> Parts<'b> {
         tables: &Tables<'_, 'b>,
         template: &Template<'b>,
     ) -> Result<(), SheetFault>
-        ensures { MatchResult result (λ _. IsPut (names_seen tables.now.modes.now) (names_seen tables.now.names.now) (template_seen template.now) (map see.rule self.old.rules.items) (map see.rule self.new.rules.items) (bodies self.old.named.items) (bodies self.new.named.items) self.old.in_rules self.new.in_rules self.old.others self.new.others) (λ e. e ≡ NoMemory) }
+        ensures { MatchResult result
+            (λ _. IsPut (names_seen tables.now.modes.now) (names_seen tables.now.names.now)
+            (template_seen template.now) (map see.rule self.old.rules.items)
+            (map see.rule self.new.rules.items) (bodies self.old.named.items)
+            (bodies self.new.named.items) self.old.in_rules self.new.in_rules self.old.others
+            self.new.others) (λ e. e ≡ NoMemory) }
     {
         let body = body_of(
             arena,
@@ -345,8 +384,10 @@ pub(crate) fn sheet_of<'b>(
     tables: &Tables<'_, 'b>,
     templates: &[Template<'b>],
 ) -> Result<Sheet<'b>, SheetFault>
-    requires modes { names_seen tables.now.modes.now ≡ model.modes_of (map template_seen templates.now) }
-    requires names { names_seen tables.now.names.now ≡ model.names_of (map template_seen templates.now) }
+    requires modes { names_seen tables.now.modes.now
+        ≡ model.modes_of (map template_seen templates.now) }
+    requires names { names_seen tables.now.names.now
+        ≡ model.names_of (map template_seen templates.now) }
     ensures ok { IfOk result (λ r. see.sheet r ≡ model.sheet_of (map template_seen templates.now)) }
     ensures no { IfErr result (λ e. e ≡ NoMemory) }
 {

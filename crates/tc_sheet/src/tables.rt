@@ -28,8 +28,10 @@ pub(crate) type Names<'b> = IndexSet<Name<'b>, BuildHasherDefault<FoldHasher>, &
 ///
 /// Malformed at a template whose name is there already.
 fn put_name<'b>(names: &mut Names<'b>, template: &Template<'b>) -> Result<(), SheetFault>
-    ensures ok { OnOk result (names_seen names.new ≡ names_seen names.old ++ model.one_name (template_seen template.now).name) }
-    ensures once { IsDistinct same_name (names_seen names.old) → OnOk result (IsDistinct same_name (names_seen names.new)) }
+    ensures ok { OnOk result (names_seen names.new ≡ names_seen names.old
+        ++ model.one_name (template_seen template.now).name) }
+    ensures once { IsDistinct same_name (names_seen names.old)
+        → OnOk result (IsDistinct same_name (names_seen names.new)) }
     ensures no { IfErr result (IsAgain (names_seen names.old) (template_seen template.now)) }
 {
     if let Some(name) = template.name {
@@ -50,8 +52,10 @@ pub(crate) fn names_of<'b>(
     arena: &'b Bump,
     templates: &[Template<'b>],
 ) -> Result<&'b Names<'b>, SheetFault>
-    ensures ok { IfOk result (λ n. names_seen n.now ≡ model.names_of (map template_seen templates.now)) }
-    ensures once { OnOk result (IsDistinct same_name (model.names_of (map template_seen templates.now))) }
+    ensures ok { IfOk result
+        (λ n. names_seen n.now ≡ model.names_of (map template_seen templates.now)) }
+    ensures once { OnOk result
+        (IsDistinct same_name (model.names_of (map template_seen templates.now))) }
     ensures no { IfErr result (IsTwice (map template_seen templates.now)) }
 {
     let names: &'b mut Names<'b> = arena.try_alloc(IndexSet::new(arena))?;
@@ -63,7 +67,8 @@ pub(crate) fn names_of<'b>(
 
 /// Puts a mode behind the others, unless it is the default one or there already.
 fn put_mode<'b>(modes: &mut Names<'b>, mode: Option<Name<'b>>) -> Result<(), SheetFault>
-    ensures ok { OnOk result (names_seen modes.new ≡ puts (names_seen modes.old) (model.one_name (option_map see.name mode.entry))) }
+    ensures ok { OnOk result (names_seen modes.new
+        ≡ puts (names_seen modes.old) (model.one_name (option_map see.name mode.entry))) }
     ensures no { IfErr result (λ e. e ≡ NoMemory) }
 {
     if let Some(name) = mode {
@@ -78,7 +83,8 @@ fn put_modes_of_branches<'b>(
     modes: &mut Names<'b>,
     branches: &[WrittenBranch<'b>],
 ) -> Result<(), SheetFault>
-    ensures ok { OnOk result (names_seen modes.new ≡ puts (names_seen modes.old) (model.modes_in_branches (branches_of branches.now))) }
+    ensures ok { OnOk result (names_seen modes.new
+        ≡ puts (names_seen modes.old) (model.modes_in_branches (branches_of branches.now))) }
     ensures no { IfErr result (λ e. e ≡ NoMemory) }
 {
     for branch in branches {
@@ -91,7 +97,8 @@ fn put_modes_of_branches<'b>(
 #[cycle(modes)]
 #[tactic(auto, using(crate::proofs::WrittenParts::modes_alone))]
 fn put_modes_of_one<'b>(modes: &mut Names<'b>, instruction: &Written<'b>) -> Result<(), SheetFault>
-    ensures ok { OnOk result (names_seen modes.new ≡ puts (names_seen modes.old) (model.modes_in_body (alone (written instruction.now)))) }
+    ensures ok { OnOk result (names_seen modes.new
+        ≡ puts (names_seen modes.old) (model.modes_in_body (alone (written instruction.now)))) }
     ensures no { IfErr result (λ e. e ≡ NoMemory) }
 {
     match instruction {
@@ -112,7 +119,8 @@ fn put_modes_of_one<'b>(modes: &mut Names<'b>, instruction: &Written<'b>) -> Res
 /// Puts the modes of a body behind the others.
 #[cycle(modes)]
 fn put_modes<'b>(modes: &mut Names<'b>, body: &[Written<'b>]) -> Result<(), SheetFault>
-    ensures ok { OnOk result (names_seen modes.new ≡ puts (names_seen modes.old) (model.modes_in_body (body_seen body.now))) }
+    ensures ok { OnOk result (names_seen modes.new
+        ≡ puts (names_seen modes.old) (model.modes_in_body (body_seen body.now))) }
     ensures no { IfErr result (λ e. e ≡ NoMemory) }
 {
     for instruction in body {
@@ -126,7 +134,8 @@ fn put_modes_of_template<'b>(
     modes: &mut Names<'b>,
     template: &Template<'b>,
 ) -> Result<(), SheetFault>
-    ensures ok { OnOk result (names_seen modes.new ≡ puts (names_seen modes.old) (modes_in (template_seen template.now))) }
+    ensures ok { OnOk result (names_seen modes.new
+        ≡ puts (names_seen modes.old) (modes_in (template_seen template.now))) }
     ensures no { IfErr result (λ e. e ≡ NoMemory) }
 {
     put_mode(modes, template.mode)?;
@@ -138,7 +147,8 @@ pub(crate) fn modes_of<'b>(
     arena: &'b Bump,
     templates: &[Template<'b>],
 ) -> Result<&'b Names<'b>, SheetFault>
-    ensures ok { IfOk result (λ m. names_seen m.now ≡ model.modes_of (map template_seen templates.now)) }
+    ensures ok { IfOk result
+        (λ m. names_seen m.now ≡ model.modes_of (map template_seen templates.now)) }
     ensures no { IfErr result (λ e. e ≡ NoMemory) }
 {
     let modes: &'b mut Names<'b> = arena.try_alloc(IndexSet::new(arena))?;

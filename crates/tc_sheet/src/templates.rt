@@ -31,7 +31,8 @@ fn with_priority<'b>(
     priority: Option<i64>,
     alternatives: &'b [Alt<'b>],
 ) -> Result<&'b [Alt<'b>], SheetFault>
-    ensures ok { IfOk result (λ xs. map alternative xs.now ≡ phrases.with_priority priority (map alternative alternatives.now)) }
+    ensures ok { IfOk result (λ xs. map alternative xs.now
+        ≡ phrases.with_priority priority (map alternative alternatives.now)) }
     ensures no { IfErr result (λ e. e ≡ faults.NoMemory) }
 {
     let Some(priority) = priority else {
@@ -53,7 +54,10 @@ fn kept<'b>(
     priority: Option<i64>,
     pattern: Option<&'b [Alt<'b>]>,
 ) -> Result<&'b [Alt<'b>], SheetFault>
-    ensures ok { IfOk result (λ xs. map alternative xs.now ≡ phrases.with_priority priority (phrases.or_none (option_map (λ ys. map alternative ys.now) pattern.entry))) }
+    ensures ok { IfOk result
+        (λ xs. map alternative xs.now
+        ≡ phrases.with_priority priority
+        (phrases.or_none (option_map (λ ys. map alternative ys.now) pattern.entry))) }
     ensures no { IfErr result (λ e. e ≡ faults.NoMemory) }
 {
     match pattern {
@@ -72,8 +76,12 @@ fn is_complete(pattern: bool, name: bool, mode: bool) -> bool
 /// Reads an `xsl:template` (XSLT 1.0, 5.3, 5.5, 5.7, 6).
 fn template<'b>(arena: &'b Bump, element: &RawElem<'b>) -> Result<Template<'b>, SheetFault>
     requires { IsXsl (codes "template") (see.name element.now.name) }
-    ensures ok { IfOk result (λ t. phrases.IsTemplate (tag_of element.now) (see.raw_trees element.now.kids.now) (template_seen t)) }
-    ensures no { IfErr result (λ e. Refuses e (IsIn at_top (see.raw_element element.now raws.none)) (HasNoTemplate element.now)) }
+    ensures ok { IfOk result
+        (λ t. phrases.IsTemplate (tag_of element.now) (see.raw_trees element.now.kids.now)
+        (template_seen t)) }
+    ensures no { IfErr result
+        (λ e. Refuses e (IsIn at_top (see.raw_element element.now raws.none))
+        (HasNoTemplate element.now)) }
 {
     only_attributes(element, &["match", "name", "priority", "mode"])?;
     let pattern = optional_pattern(arena, element)?;
@@ -96,7 +104,8 @@ fn template<'b>(arena: &'b Bump, element: &RawElem<'b>) -> Result<Template<'b>, 
 
 /// Whether this is the name of an `xsl:output` or an `xsl:strip-space`.
 fn is_declaration(name: &Name<'_>) -> bool
-    ensures { MatchBool result (IsDeclaration (see.name name.now)) (IsDeclaration (see.name name.now) → ⊥) }
+    ensures { MatchBool result (IsDeclaration (see.name name.now))
+        (IsDeclaration (see.name name.now) → ⊥) }
 {
     is_xsl(name, "output") || is_xsl(name, "strip-space")
 }
@@ -114,7 +123,9 @@ fn element_at_top<'b>(
     element: &RawElem<'b>,
 ) -> Result<Option<Template<'b>>, SheetFault>
     ensures ok { IfOk result (λ t. IsTopElement element.now (put_template t)) }
-    ensures no { IfErr result (λ e. Refuses e (IsIn at_top (see.raw_element element.now raws.none)) (HasNoTopElement element.now)) }
+    ensures no { IfErr result
+        (λ e. Refuses e (IsIn at_top (see.raw_element element.now raws.none))
+        (HasNoTopElement element.now)) }
 {
     if is_xsl(&element.name, "template") {
         let template = template(arena, element)?;
@@ -135,7 +146,8 @@ fn element_at_top<'b>(
 /// Reads what stands at the top, which may be passed over.
 fn at_top<'b>(arena: &'b Bump, kid: &Raw<'b>) -> Result<Option<Template<'b>>, SheetFault>
     ensures ok { IfOk result (λ t. IsTopItem kid.now (put_template t)) }
-    ensures no { IfErr result (λ e. Refuses e (IsIn at_top (see.raw_tree kid.now)) (HasNoTopItem kid.now)) }
+    ensures no { IfErr result
+        (λ e. Refuses e (IsIn at_top (see.raw_tree kid.now)) (HasNoTopItem kid.now)) }
 {
     match kid {
         Raw::Text(text, place) => {
@@ -151,8 +163,11 @@ fn at_top<'b>(arena: &'b Bump, kid: &Raw<'b>) -> Result<Option<Template<'b>>, Sh
 
 /// Reads the templates among what stands at the top.
 fn templates<'b>(arena: &'b Bump, kids: &[Raw<'b>]) -> Result<&'b [Template<'b>], SheetFault>
-    ensures ok { IfOk result (λ ts. phrases.AreTemplates (see.raw_trees kids.now) (map template_seen ts.now)) }
-    ensures no { IfErr result (λ e. Refuses e (IsIn at_top (see.raw_trees kids.now)) (HasNoTemplates (see.raw_trees kids.now))) }
+    ensures ok { IfOk result
+        (λ ts. phrases.AreTemplates (see.raw_trees kids.now) (map template_seen ts.now)) }
+    ensures no { IfErr result
+        (λ e. Refuses e (IsIn at_top (see.raw_trees kids.now))
+        (HasNoTemplates (see.raw_trees kids.now))) }
 {
     let mut found = Vec::new(arena);
     for kid in kids {
@@ -184,8 +199,12 @@ fn no_root(element: &RawElem<'_>) -> SheetFault
 /// Checks that the version is 1.0 (XSLT 1.0, 2.2).
 fn check_version(element: &RawElem<'_>) -> Result<(), SheetFault>
     requires { IsRoot (see.name element.now.name) }
-    ensures ok { OnOk result (phrases.value_of (codes "version") (attributes_of element.now) ≡ Some (codes "1.0")) }
-    ensures no { IfErr result (λ e. Refuses e (alone element.now) (HasNoAttributes element.now (λ olds. phrases.value_of (codes "version") olds ≡ Some (codes "1.0")))) }
+    ensures ok { OnOk result
+        (phrases.value_of (codes "version") (attributes_of element.now) ≡ Some (codes "1.0")) }
+    ensures no { IfErr result
+        (λ e. Refuses e (alone element.now)
+        (HasNoAttributes element.now
+        (λ olds. phrases.value_of (codes "version") olds ≡ Some (codes "1.0")))) }
 {
     let Some(attribute) = attribute_of(element, "version") else {
         return Err(SheetFault::Malformed(element.place));
@@ -202,7 +221,9 @@ pub(crate) fn stylesheet<'b>(
     arena: &'b Bump,
     element: &RawElem<'b>,
 ) -> Result<&'b [Template<'b>], SheetFault>
-    ensures ok { IfOk result (λ ts. phrases.IsStylesheet (see.raw_element element.now raws.none) (map template_seen ts.now)) }
+    ensures ok { IfOk result
+        (λ ts. phrases.IsStylesheet (see.raw_element element.now raws.none)
+        (map template_seen ts.now)) }
     ensures no { IfErr result (IsCause (see.raw_element element.now raws.none)) }
     ensures calls { IfErr result IsNoFaultOfCalls }
 {

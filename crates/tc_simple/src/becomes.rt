@@ -69,7 +69,8 @@ fn number_at(elements: &[Elem<'_>], place: Place) -> u32
 
 /// Two patterns side by side.
 fn two<'b>(arena: &'b Bump, first: Pat<'b>, second: Pat<'b>) -> Result<&'b [Pat<'b>], NoMemory>
-    ensures { IfOk result (λ ps. seen.patterns ps.now ≡ both (seen.pattern first.entry) (seen.pattern second.entry)) }
+    ensures { IfOk result
+        (λ ps. seen.patterns ps.now ≡ both (seen.pattern first.entry) (seen.pattern second.entry)) }
 {
     let both = arena.try_alloc_slice_copy(&[first, second])?;
     Ok(both)
@@ -77,7 +78,8 @@ fn two<'b>(arena: &'b Bump, first: Pat<'b>, second: Pat<'b>) -> Result<&'b [Pat<
 
 /// A pattern mixed with text.
 fn mixed<'b>(arena: &'b Bump, pattern: Pat<'b>) -> Result<Pat<'b>, NoMemory>
-    ensures { IfOk result (λ p. seen.pattern p ≡ g.interleave (both g.text (seen.pattern pattern.entry))) }
+    ensures { IfOk result
+        (λ p. seen.pattern p ≡ g.interleave (both g.text (seen.pattern pattern.entry))) }
 {
     let both = two(arena, Pat::Text, pattern)?;
     Ok(Pat::Interleave(both))
@@ -85,7 +87,8 @@ fn mixed<'b>(arena: &'b Bump, pattern: Pat<'b>) -> Result<Pat<'b>, NoMemory>
 
 /// A pattern, or nothing.
 fn optional<'b>(arena: &'b Bump, pattern: Pat<'b>) -> Result<Pat<'b>, NoMemory>
-    ensures { IfOk result (λ p. seen.pattern p ≡ g.choice (both (seen.pattern pattern.entry) g.empty)) }
+    ensures { IfOk result
+        (λ p. seen.pattern p ≡ g.choice (both (seen.pattern pattern.entry) g.empty)) }
 {
     let either = two(arena, pattern, Pat::Empty)?;
     Ok(Pat::Choice(either))
@@ -113,7 +116,8 @@ fn referred<'b>(table: &Table<'b>, name: &'b str, made: &[Pat<'b>]) -> Pat<'b>
 /// What the operator of a pattern makes of what its part became.
 #[tactic(auto, using(tc_rnc::proofs::Views::see_pattern))]
 fn around<'b>(arena: &'b Bump, syntax: &SPat<'b>, part: Pat<'b>) -> Result<Pat<'b>, NoMemory>
-    ensures { IfOk result (λ p. seen.pattern p ≡ around (see.pattern syntax.now) (seen.pattern part.entry)) }
+    ensures { IfOk result
+        (λ p. seen.pattern p ≡ around (see.pattern syntax.now) (seen.pattern part.entry)) }
 {
     match syntax {
         SPat::Mixed(_) => mixed(arena, part),
@@ -147,7 +151,10 @@ pub fn pattern<'b>(
 ) -> Result<Pat<'b>, NoMemory>
     requires few { length elements.now ≤ 256 }
     requires numbers { HasNumbersBelow table.now (length made.now) }
-    ensures { IfOk result (λ p. seen.pattern p ≡ becomes (made_in table.now made.now) (map see_element elements.now) (see.pattern syntax.now)) }
+    ensures { IfOk result
+        (λ p. seen.pattern p
+        ≡ becomes (made_in table.now made.now) (map see_element elements.now)
+        (see.pattern syntax.now)) }
 {
     match syntax {
         SPat::Empty | SPat::Attribute => Ok(Pat::Empty),
@@ -176,7 +183,10 @@ fn patterns<'b>(
 ) -> Result<&'b [Pat<'b>], NoMemory>
     requires few { length elements.now ≤ 256 }
     requires numbers { HasNumbersBelow table.now (length made.now) }
-    ensures { IfOk result (λ ps. seen.patterns ps.now ≡ all_become (made_in table.now made.now) (map see_element elements.now) (see.patterns syntax.now)) }
+    ensures { IfOk result
+        (λ ps. seen.patterns ps.now
+        ≡ all_become (made_in table.now made.now) (map see_element elements.now)
+        (see.patterns syntax.now)) }
 {
     let mut out = Vec::new(arena);
     for one in syntax {

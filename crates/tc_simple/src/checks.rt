@@ -15,7 +15,8 @@ use tc_rnc::{SClass, SPat, Syntax};
 #[cycle(undefined)]
 #[tactic(auto, using(tc_rnc::proofs::Views::see_pattern))]
 fn undefined_in<'b>(table: &Table<'b>, pattern: &SPat<'b>) -> Option<Place>
-    ensures { (s : t.Syntax) → IsTable s table.now → maybe_place result ≡ first_answer (undefined_reference s) (nodes_in (see.pattern pattern.now)) None }
+    ensures { (s : t.Syntax) → IsTable s table.now → maybe_place result
+        ≡ first_answer (undefined_reference s) (nodes_in (see.pattern pattern.now)) None }
 {
     match pattern {
         SPat::Empty | SPat::NotAllowed | SPat::Text | SPat::Attribute => None,
@@ -34,7 +35,8 @@ fn undefined_in<'b>(table: &Table<'b>, pattern: &SPat<'b>) -> Option<Place>
 
 #[cycle(undefined)]
 fn undefined_among<'b>(table: &Table<'b>, patterns: &[SPat<'b>]) -> Option<Place>
-    ensures { (s : t.Syntax) → IsTable s table.now → maybe_place result ≡ first_answer (undefined_reference s) (nodes_in_all (see.patterns patterns.now)) None }
+    ensures { (s : t.Syntax) → IsTable s table.now → maybe_place result
+        ≡ first_answer (undefined_reference s) (nodes_in_all (see.patterns patterns.now)) None }
 {
     for pattern in patterns {
         if let Some(place) = undefined_in(table, pattern) {
@@ -46,7 +48,9 @@ fn undefined_among<'b>(table: &Table<'b>, patterns: &[SPat<'b>]) -> Option<Place
 
 /// The first reference that has no definition.
 pub fn undefined<'b>(table: &Table<'b>, syntax: &Syntax<'b>) -> Option<Place>
-    ensures { IsTable (see.syntax syntax.now) table.now → maybe_place result ≡ first_answer (undefined_reference (see.syntax syntax.now)) (nodes_of (see.syntax syntax.now)) None }
+    ensures { IsTable (see.syntax syntax.now) table.now → maybe_place result
+        ≡ first_answer (undefined_reference (see.syntax syntax.now))
+        (nodes_of (see.syntax syntax.now)) None }
 {
     for def in syntax.defs {
         if let Some(place) = undefined_in(table, &def.body) {
@@ -85,7 +89,8 @@ fn misplaced(class: &SClass<'_>, any: bool, namespaces: bool) -> Option<Place>
 
 #[cycle(misplaced)]
 fn misplaced_among(classes: &[SClass<'_>], any: bool, namespaces: bool) -> Option<Place>
-    ensures { maybe_place result ≡ first_place (misplaced_among_of any namespaces (see.classes classes.now)) }
+    ensures { maybe_place result
+        ≡ first_place (misplaced_among_of any namespaces (see.classes classes.now)) }
 {
     for class in classes {
         if let Some(place) = misplaced(class, any, namespaces) {
@@ -99,7 +104,8 @@ fn misplaced_among(classes: &[SClass<'_>], any: bool, namespaces: bool) -> Optio
 #[cycle(excepts)]
 #[tactic(auto, using(tc_rnc::proofs::Views::see_pattern))]
 fn bad_except_in(pattern: &SPat<'_>) -> Option<Place>
-    ensures { maybe_place result ≡ first_answer misplaced_in (nodes_in (see.pattern pattern.now)) None }
+    ensures { maybe_place result
+        ≡ first_answer misplaced_in (nodes_in (see.pattern pattern.now)) None }
 {
     match pattern {
         SPat::Empty | SPat::NotAllowed | SPat::Text | SPat::Attribute | SPat::Ref(_, _) => None,
@@ -116,7 +122,8 @@ fn bad_except_in(pattern: &SPat<'_>) -> Option<Place>
 
 #[cycle(excepts)]
 fn bad_except_among(patterns: &[SPat<'_>]) -> Option<Place>
-    ensures { maybe_place result ≡ first_answer misplaced_in (nodes_in_all (see.patterns patterns.now)) None }
+    ensures { maybe_place result
+        ≡ first_answer misplaced_in (nodes_in_all (see.patterns patterns.now)) None }
 {
     for pattern in patterns {
         if let Some(place) = bad_except_in(pattern) {

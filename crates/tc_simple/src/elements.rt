@@ -22,7 +22,8 @@ pub struct Elem<'b> {
 #[cycle(elements)]
 #[tactic(auto, using(tc_rnc::proofs::Views::see_pattern))]
 fn add_elements<'b>(pattern: &SPat<'b>, found: &mut Vec<Elem<'b>, &'b Bump>) -> Result<(), NoMemory>
-    ensures { OnOk result (map see_element found.new.items ≡ map see_element found.old.items ++ filter_map element_of (nodes true (see.pattern pattern.now))) }
+    ensures { OnOk result (map see_element found.new.items ≡ map see_element found.old.items
+        ++ filter_map element_of (nodes true (see.pattern pattern.now))) }
 {
     match pattern {
         SPat::Empty | SPat::NotAllowed | SPat::Text | SPat::Attribute | SPat::Ref(_, _) => Ok(()),
@@ -46,7 +47,8 @@ fn add_all_elements<'b>(
     patterns: &[SPat<'b>],
     found: &mut Vec<Elem<'b>, &'b Bump>,
 ) -> Result<(), NoMemory>
-    ensures { OnOk result (map see_element found.new.items ≡ map see_element found.old.items ++ filter_map element_of (nodes_of_all true (see.patterns patterns.now))) }
+    ensures { OnOk result (map see_element found.new.items ≡ map see_element found.old.items
+        ++ filter_map element_of (nodes_of_all true (see.patterns patterns.now))) }
 {
     for pattern in patterns {
         add_elements(pattern, found)?;
@@ -73,7 +75,8 @@ fn add_marked<'b>(
     found: &mut Vec<Elem<'b>, &'b Bump>,
 ) -> Result<(), NoMemory>
     requires { HasNumbersBelow table.now (length marks.now) }
-    ensures { OnOk result (map see_element found.new.items ≡ map see_element found.old.items ++ marked_elements table.now marks.now (see.definition def.now)) }
+    ensures { OnOk result (map see_element found.new.items ≡ map see_element found.old.items
+        ++ marked_elements table.now marks.now (see.definition def.now)) }
 {
     if is_marked(table, marks, def.name) {
         add_elements(&def.body, found)
@@ -90,7 +93,8 @@ pub fn elements<'b>(
     syntax: &Syntax<'b>,
 ) -> Result<&'b [Elem<'b>], NoMemory>
     requires { HasNumbersBelow table.now (length marks.now) }
-    ensures { IfOk result (λ v. map see_element v.now ≡ elements_of table.now marks.now (see.syntax syntax.now).definitions) }
+    ensures { IfOk result (λ v. map see_element v.now
+        ≡ elements_of table.now marks.now (see.syntax syntax.now).definitions) }
 {
     let mut found = Vec::new(arena);
     for def in syntax.defs {

@@ -56,7 +56,10 @@ fn element_pattern<'b>(
 ) -> Result<ElemPat<'b>, NoMemory>
     requires few { length elements.now ≤ 256 }
     requires numbers { HasNumbersBelow table.now (length made.now) }
-    ensures { IfOk result (λ e. seen.element_pattern e ∷ [] ≡ element_patterns_of table.now made.now (map see_element elements.now) (see_element element.now ∷ [])) }
+    ensures { IfOk result
+        (λ e. seen.element_pattern e ∷ []
+        ≡ element_patterns_of table.now made.now (map see_element elements.now)
+        (see_element element.now ∷ [])) }
 {
     let names = name_class(arena, &element.names)?;
     let content = pattern(arena, table, &element.content, elements, made)?;
@@ -72,7 +75,10 @@ fn element_patterns<'b>(
 ) -> Result<&'b [ElemPat<'b>], NoMemory>
     requires few { length elements.now ≤ 256 }
     requires numbers { HasNumbersBelow table.now (length made.now) }
-    ensures { IfOk result (λ es. map seen.element_pattern es.now ≡ element_patterns_of table.now made.now (map see_element elements.now) (map see_element elements.now)) }
+    ensures { IfOk result
+        (λ es. map seen.element_pattern es.now
+        ≡ element_patterns_of table.now made.now (map see_element elements.now)
+        (map see_element elements.now)) }
 {
     let mut out = Vec::new(arena);
     for element in elements {
@@ -95,7 +101,11 @@ fn whole_size<'b>(
     requires marks { length marks.now ≡ length table.now.patterns.items }
     requires numbers { HasNumbersBelow table.now (length table.now.patterns.items) }
     requires order { All (λ k. k < length table.now.patterns.items) walk.now.order.items }
-    ensures { IfOk result (λ size. (s : t.Syntax) → IsLawfulSyntax s → IsFaultless s → Resolves s table.now start marks.now walk.now.states.items walk.now.order.items → map see_element found.now ≡ elements_of table.now marks.now s.definitions → (grammar : g.Grammar) × Simplifies s grammar × IsSizeOf grammar size (length found.now)) }
+    ensures { IfOk result
+        (λ size. (s : t.Syntax) → IsLawfulSyntax s → IsFaultless s
+        → Resolves s table.now start marks.now walk.now.states.items walk.now.order.items
+        → map see_element found.now ≡ elements_of table.now marks.now s.definitions
+        → (grammar : g.Grammar) × Simplifies s grammar × IsSizeOf grammar size (length found.now)) }
 {
     let sizes = all_sizes(arena, table, walk, marks)?;
     Ok(total(table, sizes, sizes[start], found))
@@ -103,8 +113,10 @@ fn whole_size<'b>(
 
 /// Refuses a grammar that is too large, which has this size and so many element patterns.
 fn check_counts(size: Size, elements: usize) -> Result<(), SimpleFault>
-    ensures ok { OnOk result ((grammar : g.Grammar) → IsSizeOf grammar size elements → IsWithinCounts grammar) }
-    ensures err { IfErr result (λ e. (s : t.Syntax) (grammar : g.Grammar) → Simplifies s grammar → IsSizeOf grammar size elements → Refuses s e) }
+    ensures ok { OnOk result
+        ((grammar : g.Grammar) → IsSizeOf grammar size elements → IsWithinCounts grammar) }
+    ensures err { IfErr result (λ e. (s : t.Syntax) (grammar : g.Grammar) → Simplifies s grammar
+        → IsSizeOf grammar size elements → Refuses s e) }
 {
     if size.nodes > MOST_NODES {
         return Err(SimpleFault::TooManyNodes);
@@ -129,10 +141,14 @@ pub fn counted<'b>(
 ) -> Result<&'b [Elem<'b>], SimpleFault>
     requires lawful { IsLawfulSyntax (see.syntax syntax.now) }
     requires faultless { IsFaultless (see.syntax syntax.now) }
-    requires resolves { Resolves (see.syntax syntax.now) table.now start marks.now walk.now.states.items walk.now.order.items }
-    ensures elements { IfOk result (λ v. map see_element v.now ≡ elements_of table.now marks.now (see.syntax syntax.now).definitions) }
+    requires resolves { Resolves
+        (see.syntax syntax.now) table.now start marks.now walk.now.states.items
+        walk.now.order.items }
+    ensures elements { IfOk result (λ v. map see_element v.now
+        ≡ elements_of table.now marks.now (see.syntax syntax.now).definitions) }
     ensures few { IfOk result (λ v. length v.now ≤ 256) }
-    ensures within { IfOk result (λ v. (grammar : g.Grammar) × Simplifies (see.syntax syntax.now) grammar × IsWithinCounts grammar) }
+    ensures within { IfOk result (λ v. (grammar : g.Grammar)
+        × Simplifies (see.syntax syntax.now) grammar × IsWithinCounts grammar) }
     ensures err { IfErr result (λ e. Refuses (see.syntax syntax.now) e) }
 {
     let found = elements(arena, table, marks, syntax)?;
@@ -155,7 +171,11 @@ pub fn built<'b>(
     requires numbers { HasNumbersBelow table.now (length table.now.patterns.items) }
     requires order { All (λ k. k < length table.now.patterns.items) walk.now.order.items }
     requires few { length found.now ≤ 256 }
-    ensures { IfOk result (λ grammar. (s : t.Syntax) → IsLawfulSyntax s → IsFaultless s → Resolves s table.now start marks.now walk.now.states.items walk.now.order.items → map see_element found.now ≡ elements_of table.now marks.now s.definitions → Simplifies s (seen.grammar grammar)) }
+    ensures { IfOk result
+        (λ grammar. (s : t.Syntax) → IsLawfulSyntax s → IsFaultless s
+        → Resolves s table.now start marks.now walk.now.states.items walk.now.order.items
+        → map see_element found.now ≡ elements_of table.now marks.now s.definitions
+        → Simplifies s (seen.grammar grammar)) }
 {
     let patterns = all_patterns(arena, table, walk, marks, found)?;
     let elements = element_patterns(arena, table, patterns, found)?;

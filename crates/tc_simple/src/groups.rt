@@ -42,7 +42,8 @@ impl<'b> Group<'b> {
 
     /// Whether a definition with this operator clashes with one of them.
     fn clashes(&self, joins: Joins) -> bool
-        ensures { (front : List t.Definition) → IsGroup front self.now → result ≡ any_of (λ j. clash j (see_joins joins)) self.now.name.now front }
+        ensures { (front : List t.Definition) → IsGroup front self.now → result
+            ≡ any_of (λ j. clash j (see_joins joins)) self.now.name.now front }
     {
         match joins {
             Joins::Plain => self.is_plain,
@@ -55,7 +56,8 @@ impl<'b> Group<'b> {
     fn note(&mut self, joins: Joins)
         ensures plain { self.new.is_plain ≡ (self.old.is_plain || is_plain (see_joins joins)) }
         ensures choice { self.new.is_choice ≡ (self.old.is_choice || is_choice (see_joins joins)) }
-        ensures interleave { self.new.is_interleave ≡ (self.old.is_interleave || is_interleave (see_joins joins)) }
+        ensures interleave { self.new.is_interleave
+            ≡ (self.old.is_interleave || is_interleave (see_joins joins)) }
         ensures name { self.new.name ≡ self.old.name }
         ensures bodies { self.new.bodies ≡ self.old.bodies }
     {
@@ -68,7 +70,9 @@ impl<'b> Group<'b> {
 
     /// One more definition.
     fn add(&mut self, def: &Def<'b>) -> Result<(), NoMemory>
-        ensures group { OnOk result ((front : List t.Definition) → IsGroup front self.old → self.old.name.now ≡ def.now.name.now → IsGroup (front ++ definition def.now ∷ []) self.new) }
+        ensures group { OnOk result
+            ((front : List t.Definition) → IsGroup front self.old → self.old.name.now
+            ≡ def.now.name.now → IsGroup (front ++ definition def.now ∷ []) self.new) }
         ensures name { self.new.name ≡ self.old.name }
     {
         self.bodies.push(def.body)?;
@@ -124,7 +128,8 @@ impl<'b> Gathered<'b> {
     /// A definition more.
     fn take(&mut self, arena: &'b Bump, def: &Def<'b>) -> Result<(), NoMemory>
         requires { (front : List t.Definition) × IsGathered front self.old }
-        ensures { OnOk result ((front : List t.Definition) → IsGathered front self.old → IsGathered (front ++ definition def.now ∷ []) self.new) }
+        ensures { OnOk result ((front : List t.Definition) → IsGathered front self.old
+            → IsGathered (front ++ definition def.now ∷ []) self.new) }
     {
         match self.number(def.name) {
             None => self.begin(arena, def),
@@ -182,7 +187,8 @@ fn joined_all<'b>(
     arena: &'b Bump,
     groups: &[Group<'b>],
 ) -> Result<Vec<SPat<'b>, &'b Bump>, NoMemory>
-    ensures { IfOk result (λ v. map pattern v.items ≡ map (λ g. joined_of g.is_choice g.bodies.items) groups.now) }
+    ensures { IfOk result
+        (λ v. map pattern v.items ≡ map (λ g. joined_of g.is_choice g.bodies.items) groups.now) }
 {
     let mut patterns = Vec::new(arena);
     for group in groups {

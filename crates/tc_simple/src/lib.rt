@@ -83,7 +83,9 @@ fn resolved<'b>(
     requires lawful { IsLawfulSyntax (see.syntax syntax.now) }
     requires once { twice_at (see.syntax syntax.now) ≡ None }
     requires defined { undefined_at (see.syntax syntax.now) ≡ None }
-    requires resolves { Resolves (see.syntax syntax.now) table.now start marks.now walked.now.states.items walked.now.order.items }
+    requires resolves { Resolves
+        (see.syntax syntax.now) table.now start marks.now walked.now.states.items
+        walked.now.order.items }
     ensures grammar { IfOk result (λ g. Simplifies (see.syntax syntax.now) (seen.grammar g)) }
     ensures within { IfOk result (λ g. IsWithinCounts (seen.grammar g)) }
     ensures err { IfErr result (λ e. Refuses (see.syntax syntax.now) e) }

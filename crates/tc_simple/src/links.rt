@@ -20,7 +20,8 @@ fn add_links<'b>(
     within: bool,
     found: &mut Vec<usize, &'b Bump>,
 ) -> Result<(), NoMemory>
-    ensures { OnOk result (found.new.items ≡ found.old.items ++ filter_map (target table.now) (nodes within (see.pattern pattern.now))) }
+    ensures { OnOk result (found.new.items ≡ found.old.items
+        ++ filter_map (target table.now) (nodes within (see.pattern pattern.now))) }
 {
     match pattern {
         SPat::Empty | SPat::NotAllowed | SPat::Text | SPat::Attribute => Ok(()),
@@ -53,7 +54,8 @@ fn add_all_links<'b>(
     within: bool,
     found: &mut Vec<usize, &'b Bump>,
 ) -> Result<(), NoMemory>
-    ensures { OnOk result (found.new.items ≡ found.old.items ++ filter_map (target table.now) (nodes_of_all within (see.patterns patterns.now))) }
+    ensures { OnOk result (found.new.items ≡ found.old.items
+        ++ filter_map (target table.now) (nodes_of_all within (see.patterns patterns.now))) }
 {
     for pattern in patterns {
         add_links(table, pattern, within, found)?;
@@ -68,7 +70,8 @@ fn links_of<'b>(
     pattern: &SPat<'b>,
     within: bool,
 ) -> Result<&'b [usize], NoMemory>
-    ensures { IfOk result (λ ks. ks.now ≡ filter_map (target table.now) (nodes within (see.pattern pattern.now))) }
+    ensures { IfOk result
+        (λ ks. ks.now ≡ filter_map (target table.now) (nodes within (see.pattern pattern.now))) }
 {
     let mut found = Vec::new(arena);
     add_links(table, pattern, within, &mut found)?;
@@ -81,7 +84,11 @@ pub fn links<'b>(
     table: &Table<'b>,
     within: bool,
 ) -> Result<&'b [&'b [usize]], NoMemory>
-    ensures { IfOk result (λ v. rows_of v.now ≡ map (λ p. filter_map (target table.now) (nodes within (see.pattern p))) table.now.patterns.items) }
+    ensures { IfOk result
+        (λ v. rows_of v.now
+        ≡ map
+        (λ p. filter_map (target table.now)
+        (nodes within (see.pattern p))) table.now.patterns.items) }
 {
     let mut rows = Vec::new(arena);
     for pattern in &table.patterns {

@@ -29,7 +29,10 @@ fn add_loops<'b>(
 ) -> Result<(), NoMemory>
     requires within { number < length walk.now.states.items }
     requires numbers { HasNumbersBelow table.now (length walk.now.states.items) }
-    ensures { OnOk result (map see_place found.new.items ≡ map see_place found.old.items ++ filter_map (loop_at table.now walk.now.states.items number) (nodes false (see.pattern pattern.now))) }
+    ensures { OnOk result
+        (map see_place found.new.items ≡ map see_place found.old.items
+        ++ filter_map (loop_at table.now walk.now.states.items number)
+        (nodes false (see.pattern pattern.now))) }
 {
     match pattern {
         SPat::Empty | SPat::NotAllowed | SPat::Text | SPat::Attribute | SPat::Element(_, _, _) => {
@@ -62,7 +65,10 @@ fn add_all_loops<'b>(
 ) -> Result<(), NoMemory>
     requires within { number < length walk.now.states.items }
     requires numbers { HasNumbersBelow table.now (length walk.now.states.items) }
-    ensures { OnOk result (map see_place found.new.items ≡ map see_place found.old.items ++ filter_map (loop_at table.now walk.now.states.items number) (nodes_of_all false (see.patterns patterns.now))) }
+    ensures { OnOk result
+        (map see_place found.new.items ≡ map see_place found.old.items
+        ++ filter_map (loop_at table.now walk.now.states.items number)
+        (nodes_of_all false (see.patterns patterns.now))) }
 {
     for pattern in patterns {
         add_loops(table, walk, number, pattern, found)?;
@@ -126,7 +132,8 @@ fn loops<'b>(
     requires marks { length marks.now ≡ length table.now.patterns.items }
     requires states { length walk.now.states.items ≡ length table.now.patterns.items }
     requires numbers { HasNumbersBelow table.now (length walk.now.states.items) }
-    ensures { IfOk result (λ v. map see_place v.now ≡ loops_below table.now walk.now.states.items marks.now (length table.now.patterns.items)) }
+    ensures { IfOk result (λ v. map see_place v.now
+        ≡ loops_below table.now walk.now.states.items marks.now (length table.now.patterns.items)) }
 {
     let mut found = Vec::new(arena);
     for number in 0..table.patterns.len() {
@@ -147,7 +154,8 @@ fn add_marked<'b>(
     requires marks { length marks.now ≡ length table.now.patterns.items }
     requires states { length walk.now.states.items ≡ length table.now.patterns.items }
     requires numbers { HasNumbersBelow table.now (length walk.now.states.items) }
-    ensures { OnOk result (map see_place found.new.items ≡ map see_place found.old.items ++ marked_loops table.now walk.now.states.items marks.now number) }
+    ensures { OnOk result (map see_place found.new.items ≡ map see_place found.old.items
+        ++ marked_loops table.now walk.now.states.items marks.now number) }
 {
     if marks[number] {
         add_loops(table, walk, number, &table.patterns[number], found)
@@ -166,7 +174,8 @@ pub fn first_loop<'b>(
     requires marks { length marks.now ≡ length table.now.patterns.items }
     requires states { length walk.now.states.items ≡ length table.now.patterns.items }
     requires numbers { HasNumbersBelow table.now (length walk.now.states.items) }
-    ensures { IfOk result (λ o. IsFirstLoop table.now walk.now.states.items marks.now (maybe_place o)) }
+    ensures { IfOk result
+        (λ o. IsFirstLoop table.now walk.now.states.items marks.now (maybe_place o)) }
 {
     let places = loops(arena, table, walk, marks)?;
     Ok(least(places))
@@ -176,7 +185,8 @@ pub fn first_loop<'b>(
 /// `start`.
 pub fn starts_well(table: &Table<'_>, marks: &[bool]) -> bool
     requires { length marks.now ≡ length table.now.patterns.items }
-    ensures { MatchBool result (StartsWell table.now marks.now (length table.now.patterns.items)) (StartsBadly table.now marks.now) }
+    ensures { MatchBool result (StartsWell table.now marks.now (length table.now.patterns.items))
+        (StartsBadly table.now marks.now) }
 {
     for number in 0..table.patterns.len() {
         if marks[number] && !may_start(&table.patterns[number]) {

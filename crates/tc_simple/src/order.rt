@@ -40,7 +40,12 @@ pub fn all_sizes<'b>(
     requires marks { length marks.now ≡ length table.now.patterns.items }
     requires numbers { HasNumbersBelow table.now (length table.now.patterns.items) }
     requires order { All (λ k. k < length table.now.patterns.items) walk.now.order.items }
-    ensures { IfOk result (λ v. (length v.now ≡ length table.now.patterns.items) × ((s : t.Syntax) (es : List Element) → IsOrderly s table.now marks.now walk.now.states.items walk.now.order.items → AreSized s es table.now marks.now walk.now.states.items (length walk.now.order.items) v.now)) }
+    ensures { IfOk result
+        (λ v. (length v.now ≡ length table.now.patterns.items)
+        × ((s : t.Syntax) (es : List Element)
+        → IsOrderly s table.now marks.now walk.now.states.items walk.now.order.items
+        → AreSized s es table.now marks.now walk.now.states.items
+        (length walk.now.order.items) v.now)) }
 {
     let sizes: &'b mut [Size] = arena.try_alloc_slice_fill_clone(
         table.patterns.len(),
@@ -66,7 +71,8 @@ fn put_pattern<'b>(
     requires made { length made.old ≡ length table.now.patterns.items }
     requires numbers { HasNumbersBelow table.now (length table.now.patterns.items) }
     requires few { length elements.now ≤ 256 }
-    ensures { OnOk result (PutsPattern table.now marks.now (map see_element elements.now) number made.old made.new) }
+    ensures { OnOk result
+        (PutsPattern table.now marks.now (map see_element elements.now) number made.old made.new) }
 {
     if !marks[number] {
         return Ok(());
@@ -88,7 +94,12 @@ pub fn all_patterns<'b>(
     requires numbers { HasNumbersBelow table.now (length table.now.patterns.items) }
     requires order { All (λ k. k < length table.now.patterns.items) walk.now.order.items }
     requires few { length elements.now ≤ 256 }
-    ensures { IfOk result (λ v. (length v.now ≡ length table.now.patterns.items) × ((s : t.Syntax) → IsOrderly s table.now marks.now walk.now.states.items walk.now.order.items → AreMade s (map see_element elements.now) table.now marks.now walk.now.states.items (length walk.now.order.items) v.now)) }
+    ensures { IfOk result
+        (λ v. (length v.now ≡ length table.now.patterns.items)
+        × ((s : t.Syntax)
+        → IsOrderly s table.now marks.now walk.now.states.items walk.now.order.items
+        → AreMade s (map see_element elements.now) table.now marks.now walk.now.states.items
+        (length walk.now.order.items) v.now)) }
 {
     let made: &'b mut [Pat<'b>] = arena.try_alloc_slice_fill_clone(
         table.patterns.len(),

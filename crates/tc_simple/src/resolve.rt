@@ -60,7 +60,8 @@ pub fn mark<'b>(
 /// The components of the definitions.
 pub fn walk<'b>(arena: &'b Bump, table: &Table<'b>) -> Result<Walk<'b>, NoMemory>
     requires { (s : t.Syntax) × IsTable s table.now }
-    ensures { IfOk result (λ w. AreComponents (link_rows table.now false) w.states.items w.order.items) }
+    ensures { IfOk result
+        (λ w. AreComponents (link_rows table.now false) w.states.items w.order.items) }
 {
     let rows = links(arena, table, false)?;
     components(arena, rows)
@@ -68,7 +69,9 @@ pub fn walk<'b>(arena: &'b Bump, table: &Table<'b>) -> Result<Walk<'b>, NoMemory
 
 /// The place of the first definition of `start`; 0 where there is none.
 pub fn start_place(syntax: &Syntax<'_>) -> Place
-    ensures { (first : ℕ) → first_definition (definitions_of (see.syntax syntax.now).definitions []) ≡ Some first → see_place result ≡ first }
+    ensures { (first : ℕ)
+        → first_definition (definitions_of (see.syntax syntax.now).definitions []) ≡ Some first
+        → see_place result ≡ first }
 {
     for def in syntax.defs {
         if def.name.is_empty() {
@@ -87,7 +90,9 @@ pub fn check<'b>(
     marks: &[bool],
     walk: &Walk<'b>,
 ) -> Result<(), SimpleFault>
-    requires resolves { Resolves (see.syntax syntax.now) table.now start marks.now walk.now.states.items walk.now.order.items }
+    requires resolves { Resolves
+        (see.syntax syntax.now) table.now start marks.now walk.now.states.items
+        walk.now.order.items }
     requires once { twice_at (see.syntax syntax.now) ≡ None }
     requires defined { undefined_at (see.syntax syntax.now) ≡ None }
     ensures ok { OnOk result (IsFaultless (see.syntax syntax.now)) }

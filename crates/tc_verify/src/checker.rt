@@ -83,8 +83,10 @@ impl<'m, 'b> Checker<'m, 'b> {
         requires fit { (x : Triple) → IsMachineOf x machine.now → AllFit (sizes x) cert.now }
         ensures checked { IfOk result (λ c. AreChecked c) }
         ensures machine { IfOk result (λ c. (view_of c).machine ≡ machine.now) }
-        ensures hedges { IfOk result (λ c. (x : Triple) → IsMachineOf x machine.now → hedge_rows (view_of c) x ≡ hedges_of cert.now) }
-        ensures trees { IfOk result (λ c. (x : Triple) → IsMachineOf x machine.now → tree_rows (view_of c) x ≡ trees_of cert.now) }
+        ensures hedges { IfOk result (λ c. (x : Triple) → IsMachineOf x machine.now
+            → hedge_rows (view_of c) x ≡ hedges_of cert.now) }
+        ensures trees { IfOk result (λ c. (x : Triple) → IsMachineOf x machine.now
+            → tree_rows (view_of c) x ≡ trees_of cert.now) }
     {
         let mut checker = begun(alloc, machine, cert)?;
         let read = checker.read(alloc, machine, cert);
@@ -111,14 +113,18 @@ impl<'m, 'b> Checker<'m, 'b> {
         requires machine { IsMachine machine.now }
         requires formed { IsFormed cert.now }
         requires fit { (x : Triple) → IsMachineOf x machine.now → AllFit (sizes x) cert.now }
-        requires begun { AreBegun machine.now cert.now self.old.rows self.old.new_hedge self.old.new_tree }
+        requires begun { AreBegun machine.now cert.now self.old.rows self.old.new_hedge
+            self.old.new_tree }
         requires hedges { self.old.hedges.items ≡ [] }
         requires trees { self.old.trees.items ≡ [] }
         requires hedge_lists { self.old.hedge_lists ≡ [] }
         requires tree_lists { self.old.tree_lists ≡ [] }
-        ensures begun { AreBegun machine.now cert.now self.new.rows self.new.new_hedge self.new.new_tree }
-        ensures hedges { OnOk result (AreReadHedges machine.now cert.now self.new.hedges.items self.new.hedge_lists) }
-        ensures trees { OnOk result (AreReadTrees machine.now cert.now self.new.trees.items self.new.tree_lists) }
+        ensures begun { AreBegun machine.now cert.now self.new.rows self.new.new_hedge
+            self.new.new_tree }
+        ensures hedges { OnOk result
+            (AreReadHedges machine.now cert.now self.new.hedges.items self.new.hedge_lists) }
+        ensures trees { OnOk result
+            (AreReadTrees machine.now cert.now self.new.trees.items self.new.tree_lists) }
     {
         read_hedges(
             alloc,
@@ -159,7 +165,8 @@ impl<'m, 'b> Checker<'m, 'b> {
         requires checked { AreChecked self.old }
         ensures checked { AreChecked self.new }
         ensures same { view_of self.new ≡ view_of self.old }
-        ensures exact { MatchBool result (EmptyHolds (view_of self.old)) (EmptyBreaks (view_of self.old)) }
+        ensures exact { MatchBool result (EmptyHolds (view_of self.old))
+            (EmptyBreaks (view_of self.old)) }
     {
         match self.rows.empty_row(&mut self.new_hedge) {
             Ok(()) => self.hedge_lists.has(self.new_hedge.numbers()),
@@ -172,7 +179,8 @@ impl<'m, 'b> Checker<'m, 'b> {
         requires checked { AreChecked self.old }
         ensures checked { AreChecked self.new }
         ensures same { view_of self.new ≡ view_of self.old }
-        ensures exact { MatchBool result (TextHolds (view_of self.old)) (TextBreaks (view_of self.old)) }
+        ensures exact { MatchBool result (TextHolds (view_of self.old))
+            (TextBreaks (view_of self.old)) }
     {
         match self.rows.text_row(&mut self.new_tree) {
             Ok(true) => self.tree_lists.has(self.new_tree.numbers()),
@@ -188,7 +196,8 @@ impl<'m, 'b> Checker<'m, 'b> {
         requires tree { tree < length (view_of self.old).trees }
         ensures checked { AreChecked self.new }
         ensures same { view_of self.new ≡ view_of self.old }
-        ensures exact { MatchBool result (AppendHolds (view_of self.old) hedge tree) (AppendBreaks (view_of self.old) hedge tree) }
+        ensures exact { MatchBool result (AppendHolds (view_of self.old) hedge tree)
+            (AppendBreaks (view_of self.old) hedge tree) }
     {
         let first = &self.hedges[hedge as usize];
         let next = &self.trees[tree as usize];
@@ -206,7 +215,8 @@ impl<'m, 'b> Checker<'m, 'b> {
         requires symbol { symbol < symbol_count (view_of self.old).machine.alphabet }
         ensures checked { AreChecked self.new }
         ensures same { view_of self.new ≡ view_of self.old }
-        ensures exact { MatchBool result (WrapHolds (view_of self.old) hedge symbol) (WrapBreaks (view_of self.old) hedge symbol) }
+        ensures exact { MatchBool result (WrapHolds (view_of self.old) hedge symbol)
+            (WrapBreaks (view_of self.old) hedge symbol) }
     {
         let inner = &self.hedges[hedge as usize];
         match self.rows.wrap(Sym(symbol), inner, &mut self.new_tree) {
@@ -222,7 +232,8 @@ impl<'m, 'b> Checker<'m, 'b> {
         requires tree { tree < length (view_of self.old).trees }
         ensures checked { AreChecked self.new }
         ensures same { view_of self.new ≡ view_of self.old }
-        ensures exact { MatchBool result (RootHolds (view_of self.old) tree) (RootBreaks (view_of self.old) tree) }
+        ensures exact { MatchBool result (RootHolds (view_of self.old) tree)
+            (RootBreaks (view_of self.old) tree) }
     {
         let root = &self.trees[tree as usize];
         !self.rows.admitted(root) || self.rows.root_ok(root)

@@ -54,10 +54,14 @@ fn reject_of(cert: &CertData, broken: Broken) -> Reject
 pub fn verify(alloc: Global, machine: &Machine<'_>, cert: &CertData) -> Result<(), VerifyFault>
     requires machine { IsMachine machine.now }
     requires formed { IsFormed cert.now }
-    ensures certificate { OnOk result ((x : Triple) → IsMachineOf x machine.now → IsCertificateData x cert.now) }
-    ensures safe { OnOk result ((x : Triple) → IsMachineOf x machine.now → IsSafe x.input x.output (sheet x)) }
-    ensures all_live { OnOk result ((x : Triple) → IsMachineOf x machine.now → ListsAllLive x cert.now) }
-    ensures cause { IfErr result (λ e. (x : Triple) → IsMachineOf x machine.now → IsCause x cert.now e) }
+    ensures certificate { OnOk result
+        ((x : Triple) → IsMachineOf x machine.now → IsCertificateData x cert.now) }
+    ensures safe { OnOk result
+        ((x : Triple) → IsMachineOf x machine.now → IsSafe x.input x.output (sheet x)) }
+    ensures all_live { OnOk result
+        ((x : Triple) → IsMachineOf x machine.now → ListsAllLive x cert.now) }
+    ensures cause { IfErr result
+        (λ e. (x : Triple) → IsMachineOf x machine.now → IsCause x cert.now e) }
 {
     if let Some(line) = first_unfit(machine.shape(), cert) {
         return Err(VerifyFault::Rejected(told(RejectRule::Fit, line, 0)));

@@ -26,7 +26,8 @@ fn try_appends(checker: &mut Checker<'_, '_>) -> Result<(), Broken>
     requires before { ListsHold (view_of checker.old) }
     ensures checked { AreChecked checker.new }
     ensures same { view_of checker.new ≡ view_of checker.old }
-    ensures first { MatchResult result (λ _. RowsHold (view_of checker.old)) (λ b. IsFirstOf (view_of checker.old) b) }
+    ensures first { MatchResult result (λ _. RowsHold (view_of checker.old))
+        (λ b. IsFirstOf (view_of checker.old) b) }
 {
     for hedge in 0..checker.hedge_count() {
         for tree in 0..checker.tree_count() {
@@ -44,7 +45,8 @@ fn try_wraps(checker: &mut Checker<'_, '_>) -> Result<(), Broken>
     requires before { RowsHold (view_of checker.old) }
     ensures checked { AreChecked checker.new }
     ensures same { view_of checker.new ≡ view_of checker.old }
-    ensures first { MatchResult result (λ _. WrapsToo (view_of checker.old)) (λ b. IsFirstOf (view_of checker.old) b) }
+    ensures first { MatchResult result (λ _. WrapsToo (view_of checker.old))
+        (λ b. IsFirstOf (view_of checker.old) b) }
 {
     for hedge in 0..checker.hedge_count() {
         for symbol in 0..checker.symbol_count() {
@@ -62,7 +64,8 @@ fn try_roots(checker: &mut Checker<'_, '_>) -> Result<(), Broken>
     requires before { WrapsToo (view_of checker.old) }
     ensures checked { AreChecked checker.new }
     ensures same { view_of checker.new ≡ view_of checker.old }
-    ensures first { MatchResult result (λ _. AllHold (view_of checker.old)) (λ b. IsFirstOf (view_of checker.old) b) }
+    ensures first { MatchResult result (λ _. AllHold (view_of checker.old))
+        (λ b. IsFirstOf (view_of checker.old) b) }
 {
     for tree in 0..checker.tree_count() {
         if !checker.root_is_good(tree) {
@@ -77,7 +80,8 @@ pub(crate) fn try_rules(checker: &mut Checker<'_, '_>) -> Result<(), Broken>
     requires checked { AreChecked checker.old }
     ensures checked { AreChecked checker.new }
     ensures same { view_of checker.new ≡ view_of checker.old }
-    ensures first { MatchResult result (λ _. AllHold (view_of checker.old)) (λ b. IsFirstOf (view_of checker.old) b) }
+    ensures first { MatchResult result (λ _. AllHold (view_of checker.old))
+        (λ b. IsFirstOf (view_of checker.old) b) }
 {
     if !checker.empty_is_listed() {
         return Err(Broken::Empty);

@@ -35,7 +35,9 @@ fn pairs_fit(states: u32, pairs: &Pairs) -> bool
 
 /// Whether the outputs and the looks of a row have their lengths, and the outputs are among so many sets.
 fn lists_fit(shape: Shape, sets: u32, outs: &Numbers, looks: &Numbers) -> bool
-    ensures { IsTrue result ↔ ((length outs.now ≡ shape.entries) × AreFrom 0 sets outs.now × (length looks.now ≡ shape.looks)) }
+    ensures { IsTrue result
+        ↔ ((length outs.now ≡ shape.entries) × AreFrom 0 sets outs.now
+        × (length looks.now ≡ shape.looks)) }
 {
     outs.len() == shape.entries && are_from(0, sets, outs) && looks.len() == shape.looks
 }
@@ -57,7 +59,8 @@ fn hedge_fits(shape: Shape, cert: &CertData, line: &HedgeLine) -> bool
 /// The first line that doesn't fit.
 pub(crate) fn first_unfit(shape: Shape, cert: &CertData) -> Option<u32>
     requires { IsFormed cert.now }
-    ensures { MatchOption result (AllFit (shape_sizes shape) cert.now) (λ line. IsFirstUnfit (shape_sizes shape) cert.now line) }
+    ensures { MatchOption result (AllFit (shape_sizes shape) cert.now)
+        (λ line. IsFirstUnfit (shape_sizes shape) cert.now line) }
 {
     for output in 0..cert.outputs.len() {
         if !pairs_fit(shape.outputs, cert.outputs.get(output)) {

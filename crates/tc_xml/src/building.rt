@@ -52,7 +52,8 @@ fn level<'b>(arena: &'b Bump, parts: &[Part<'b>]) -> Option<&'b [Node<'b>]>
 
 /// Ends the element that has started last.
 fn close<'b>(arena: &'b Bump, parts: &mut Vec<Part<'b>, &'b Bump>) -> Option<()>
-    ensures { IfSome result (λ _. building_of parts.new.items ≡ after_event (building_of parts.old.items) events.end) }
+    ensures { IfSome result
+        (λ _. building_of parts.new.items ≡ after_event (building_of parts.old.items) events.end) }
 {
     let from = level_start(parts.as_slice());
     if from > parts.len() {
@@ -71,7 +72,9 @@ fn close<'b>(arena: &'b Bump, parts: &mut Vec<Part<'b>, &'b Bump>) -> Option<()>
 
 /// Puts a text after what was built.
 fn put_text<'b>(parts: &mut Vec<Part<'b>, &'b Bump>, text: &'b str) -> Option<()>
-    ensures { IfSome result (λ _. building_of parts.new.items ≡ after_event (building_of parts.old.items) (events.characters text.now)) }
+    ensures { IfSome result
+        (λ _. building_of parts.new.items
+        ≡ after_event (building_of parts.old.items) (events.characters text.now)) }
 {
     match parts.push(Part::Done(Node::Text(text))) {
         Ok(()) => Some(()),
@@ -81,7 +84,9 @@ fn put_text<'b>(parts: &mut Vec<Part<'b>, &'b Bump>, text: &'b str) -> Option<()
 
 /// Puts the start of an element after what was built.
 fn put_start<'b>(parts: &mut Vec<Part<'b>, &'b Bump>, tag: Name<'b>) -> Option<()>
-    ensures { IfSome result (λ _. building_of parts.new.items ≡ after_event (building_of parts.old.items) (events.start (name tag.entry))) }
+    ensures { IfSome result
+        (λ _. building_of parts.new.items
+        ≡ after_event (building_of parts.old.items) (events.start (name tag.entry))) }
 {
     match parts.push(Part::Open(tag)) {
         Ok(()) => Some(()),

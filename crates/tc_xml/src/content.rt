@@ -86,8 +86,10 @@ fn attribute<'b, 't>(
     requires { total ≤ 67108864 }
     ensures ok { IfOk result (λ r. AttributeAt false total text.now (written r.0) r.1.now) }
     ensures no { IfErr result (λ e. Refuses e
-        ((a : xml_scopes.WrittenAttribute) (after : List ℕ) → AttributeAt true total text.now a after → ⊥)
-        ((a : xml_scopes.WrittenAttribute) (after : List ℕ) → AttributeAt false total text.now a after → ⊥)) }
+        ((a : xml_scopes.WrittenAttribute) (after : List ℕ)
+        → AttributeAt true total text.now a after → ⊥)
+        ((a : xml_scopes.WrittenAttribute) (after : List ℕ)
+        → AttributeAt false total text.now a after → ⊥)) }
     ensures stands { IfErr result (λ e. UnsupportedAt e (refusals.AttributesRefuse text.now)) }
     ensures malformed { IfErr result (λ e. OnMalformed e
         ((why : Why) (at : List ℕ) → refusals.AttributesRefuse text.now why at → ⊥)) }
@@ -120,8 +122,12 @@ fn attributes<'b, 't>(
         (map written r.0.items) r.1.now) }
     ensures no_space { IfOk result (λ r. IsTrue (lacks_space (map written r.0.items))) }
     ensures no { IfErr result (λ e. Refuses e
-        ((attributes : List xml_scopes.WrittenAttribute) (after : List ℕ) → xml.AttributesAt true total text.now attributes after → IsTrue (lacks_space attributes) → ⊥)
-        ((attributes : List xml_scopes.WrittenAttribute) (after : List ℕ) → xml.AttributesAt false total text.now attributes after → IsTrue (lacks_space attributes) → ⊥)) }
+        ((attributes : List xml_scopes.WrittenAttribute) (after : List ℕ)
+        → xml.AttributesAt true total text.now attributes after → IsTrue (lacks_space attributes)
+        → ⊥)
+        ((attributes : List xml_scopes.WrittenAttribute) (after : List ℕ)
+        → xml.AttributesAt false total text.now attributes after → IsTrue (lacks_space attributes)
+        → ⊥)) }
     ensures stands { IfErr result (λ e. UnsupportedAt e (refusals.AttributesRefuse text.now)) }
     ensures malformed { IfErr result (λ e. OnMalformed e
         ((why : Why) (at : List ℕ) → refusals.AttributesRefuse text.now why at → ⊥)) }
@@ -158,11 +164,17 @@ pub(crate) fn open_tag<'b, 't>(
     text: &'t str,
 ) -> Result<OpenTag<'b, 't>, Stop>
     requires { total ≤ 67108864 }
-    ensures ok { IfOk result (λ t. xml.TagAt false total (in_scope outer.entry) text.now (written_name t.written)
-        (in_scope t.meaning.scope) (name t.meaning.name) (map seen_attribute t.meaning.attrs.now) t.rest.now) }
+    ensures ok { IfOk result
+        (λ t. xml.TagAt false total (in_scope outer.entry) text.now (written_name t.written)
+        (in_scope t.meaning.scope) (name t.meaning.name)
+        (map seen_attribute t.meaning.attrs.now) t.rest.now) }
     ensures no { IfErr result (λ e. Refuses e
-        ((w : xml_names.QualifiedName) (scope : List Bound) (n : ExpandedName) (attributes : List Attribute) (after : List ℕ) → xml.TagAt true total (in_scope outer.entry) text.now w scope n attributes after → ⊥)
-        ((w : xml_names.QualifiedName) (scope : List Bound) (n : ExpandedName) (attributes : List Attribute) (after : List ℕ) → xml.TagAt false total (in_scope outer.entry) text.now w scope n attributes after → ⊥)) }
+        ((w : xml_names.QualifiedName) (scope : List Bound) (n : ExpandedName)
+        (attributes : List Attribute) (after : List ℕ)
+        → xml.TagAt true total (in_scope outer.entry) text.now w scope n attributes after → ⊥)
+        ((w : xml_names.QualifiedName) (scope : List Bound) (n : ExpandedName)
+        (attributes : List Attribute) (after : List ℕ)
+        → xml.TagAt false total (in_scope outer.entry) text.now w scope n attributes after → ⊥)) }
     ensures stands { IfErr result (λ e. UnsupportedAt e (refusals.TagRefuses text.now)) }
     ensures malformed { IfErr result (λ e. OnMalformed e
         ((why : Why) (at : List ℕ) → refusals.TagRefuses text.now why at → ⊥)) }
@@ -300,7 +312,8 @@ fn gather_element<'b>(
     kids: Gathered<'b>,
 ) -> Result<(), NoMemory>
     ensures { OnOk result (AddsPiece gathered.old gathered.new
-        (xml.whole (name tag.now.meaning.name) (map seen_attribute tag.now.meaning.attrs.now) (in_scope tag.now.meaning.scope) (see_place first) (gathered_before kids.entry none))) }
+        (xml.whole (name tag.now.meaning.name) (map seen_attribute tag.now.meaning.attrs.now)
+        (in_scope tag.now.meaning.scope) (see_place first) (gathered_before kids.entry none))) }
 {
     let kids = all_gathered(kids)?;
     end_run(gathered)?;
@@ -446,9 +459,12 @@ fn content<'b, 't>(
         × xml.ContentAt false total (in_scope scope.entry) depth text.now h rest.now
         × AddsContent gathered.old gathered.new h) }
     ensures no { IfErr result (λ e. RefusesWithin e
-        ((d : ℕ) (h : RawTrees) (after : List ℕ) → xml.ContentAt true total (in_scope scope.entry) d text.now h after → ⊥)
-        ((d : ℕ) (h : RawTrees) (after : List ℕ) → xml.ContentAt false total (in_scope scope.entry) d text.now h after → ⊥)
-        ((h : RawTrees) (after : List ℕ) → xml.ContentAt true total (in_scope scope.entry) depth text.now h after → ⊥)) }
+        ((d : ℕ) (h : RawTrees) (after : List ℕ)
+        → xml.ContentAt true total (in_scope scope.entry) d text.now h after → ⊥)
+        ((d : ℕ) (h : RawTrees) (after : List ℕ)
+        → xml.ContentAt false total (in_scope scope.entry) d text.now h after → ⊥)
+        ((h : RawTrees) (after : List ℕ)
+        → xml.ContentAt true total (in_scope scope.entry) depth text.now h after → ⊥)) }
     ensures stands { IfErr result (λ e. RefusedAt e
         (refusals.ContentRefuses total (in_scope scope.entry) depth text.now)) }
     ensures malformed { IfErr result (λ e. OnMalformed e
@@ -476,9 +492,12 @@ fn item<'b, 't>(
         × xml.ItemAt false total (in_scope scope.entry) depth text.now p rest.now
         × AddsPiece gathered.old gathered.new p) }
     ensures no { IfErr result (λ e. RefusesWithin e
-        ((d : ℕ) (p : xml.Piece) (after : List ℕ) → xml.ItemAt true total (in_scope scope.entry) d text.now p after → ⊥)
-        ((d : ℕ) (p : xml.Piece) (after : List ℕ) → xml.ItemAt false total (in_scope scope.entry) d text.now p after → ⊥)
-        ((p : xml.Piece) (after : List ℕ) → xml.ItemAt true total (in_scope scope.entry) depth text.now p after → ⊥)) }
+        ((d : ℕ) (p : xml.Piece) (after : List ℕ)
+        → xml.ItemAt true total (in_scope scope.entry) d text.now p after → ⊥)
+        ((d : ℕ) (p : xml.Piece) (after : List ℕ)
+        → xml.ItemAt false total (in_scope scope.entry) d text.now p after → ⊥)
+        ((p : xml.Piece) (after : List ℕ)
+        → xml.ItemAt true total (in_scope scope.entry) depth text.now p after → ⊥)) }
     ensures stands { IfErr result (λ e. RefusedAt e
         (refusals.ContentRefuses total (in_scope scope.entry) depth text.now)) }
     ensures malformed { IfErr result (λ e. OnMalformed e
@@ -514,9 +533,12 @@ fn element<'b, 't>(
         × xml.ElementAt false total (in_scope outer.entry) depth text.now p rest.now
         × AddsPiece gathered.old gathered.new p) }
     ensures no { IfErr result (λ e. RefusesWithin e
-        ((d : ℕ) (p : xml.Piece) (after : List ℕ) → xml.ElementAt true total (in_scope outer.entry) d text.now p after → ⊥)
-        ((d : ℕ) (p : xml.Piece) (after : List ℕ) → xml.ElementAt false total (in_scope outer.entry) d text.now p after → ⊥)
-        ((p : xml.Piece) (after : List ℕ) → xml.ElementAt true total (in_scope outer.entry) depth text.now p after → ⊥)) }
+        ((d : ℕ) (p : xml.Piece) (after : List ℕ)
+        → xml.ElementAt true total (in_scope outer.entry) d text.now p after → ⊥)
+        ((d : ℕ) (p : xml.Piece) (after : List ℕ)
+        → xml.ElementAt false total (in_scope outer.entry) d text.now p after → ⊥)
+        ((p : xml.Piece) (after : List ℕ)
+        → xml.ElementAt true total (in_scope outer.entry) depth text.now p after → ⊥)) }
     ensures stands { IfErr result (λ e. RefusedAt e
         (refusals.ElementRefuses total (in_scope outer.entry) depth text.now)) }
     ensures malformed { IfErr result (λ e. OnMalformed e
@@ -547,9 +569,15 @@ fn body<'b, 't>(
         (written_name tag.now.written) tag.now.rest.now h rest.now
         × AddsContent kids.old kids.new h) }
     ensures no { IfErr result (λ e. RefusesWithin e
-        ((d : ℕ) (h : RawTrees) (after : List ℕ) → BodyAt true total (in_scope tag.now.meaning.scope) d (written_name tag.now.written) tag.now.rest.now h after → ⊥)
-        ((d : ℕ) (h : RawTrees) (after : List ℕ) → BodyAt false total (in_scope tag.now.meaning.scope) d (written_name tag.now.written) tag.now.rest.now h after → ⊥)
-        ((h : RawTrees) (after : List ℕ) → BodyAt true total (in_scope tag.now.meaning.scope) depth (written_name tag.now.written) tag.now.rest.now h after → ⊥)) }
+        ((d : ℕ) (h : RawTrees) (after : List ℕ)
+        → BodyAt true total (in_scope tag.now.meaning.scope) d
+        (written_name tag.now.written) tag.now.rest.now h after → ⊥)
+        ((d : ℕ) (h : RawTrees) (after : List ℕ)
+        → BodyAt false total (in_scope tag.now.meaning.scope) d
+        (written_name tag.now.written) tag.now.rest.now h after → ⊥)
+        ((h : RawTrees) (after : List ℕ)
+        → BodyAt true total (in_scope tag.now.meaning.scope) depth
+        (written_name tag.now.written) tag.now.rest.now h after → ⊥)) }
     ensures stands { IfErr result (λ e. RefusedAt e
         (BodyRefuses total (in_scope tag.now.meaning.scope) depth tag.now.rest.now)) }
     ensures malformed { IfErr result (λ e. OnMalformed e
@@ -572,8 +600,10 @@ fn body<'b, 't>(
 /// Why no element may stand here, as deep as it is.
 fn too_deep(text: &str) -> Stop
     ensures no { (total : ℕ) (outer : List Bound) → RefusesWithin result
-        ((d : ℕ) (p : xml.Piece) (after : List ℕ) → xml.ElementAt true total outer d text.now p after → ⊥)
-        ((d : ℕ) (p : xml.Piece) (after : List ℕ) → xml.ElementAt false total outer d text.now p after → ⊥)
+        ((d : ℕ) (p : xml.Piece) (after : List ℕ)
+        → xml.ElementAt true total outer d text.now p after → ⊥)
+        ((d : ℕ) (p : xml.Piece) (after : List ℕ)
+        → xml.ElementAt false total outer d text.now p after → ⊥)
         ((p : xml.Piece) (after : List ℕ) → xml.ElementAt true total outer 0 text.now p after → ⊥) }
     ensures stands { (total : ℕ) (outer : List Bound)
         → RefusedAt result (refusals.ElementRefuses total outer 0 text.now) }
@@ -601,9 +631,12 @@ pub(crate) fn root_element<'b, 't>(
         × xml.ElementAt false total xml_scopes.first_scope depth text.now p r.1.now
         × (raw_tree r.0 ≡ xml.piece_before p none)) }
     ensures no { IfErr result (λ e. RefusesWithin e
-        ((d : ℕ) (p : xml.Piece) (after : List ℕ) → xml.ElementAt true total xml_scopes.first_scope d text.now p after → ⊥)
-        ((d : ℕ) (p : xml.Piece) (after : List ℕ) → xml.ElementAt false total xml_scopes.first_scope d text.now p after → ⊥)
-        ((p : xml.Piece) (after : List ℕ) → xml.ElementAt true total xml_scopes.first_scope depth text.now p after → ⊥)) }
+        ((d : ℕ) (p : xml.Piece) (after : List ℕ)
+        → xml.ElementAt true total xml_scopes.first_scope d text.now p after → ⊥)
+        ((d : ℕ) (p : xml.Piece) (after : List ℕ)
+        → xml.ElementAt false total xml_scopes.first_scope d text.now p after → ⊥)
+        ((p : xml.Piece) (after : List ℕ)
+        → xml.ElementAt true total xml_scopes.first_scope depth text.now p after → ⊥)) }
     ensures stands { IfErr result (λ e. RefusedAt e
         (refusals.ElementRefuses total xml_scopes.first_scope depth text.now)) }
     ensures malformed { IfErr result (λ e. OnMalformed e

@@ -30,12 +30,21 @@ pub(crate) fn past_mark(text: &str) -> &str
 
 /// What stands from the root element of a document on (XML 1.0, 2.1).
 pub(crate) fn before_root(text: &str) -> Result<&str, Stop>
-    ensures ok { IfOk result (λ root. (d m : List ℕ) × misc.DeclarationAt (xml.after_mark text.now) d × misc.MiscAt d m × misc.DoctypeAt m root.now) }
+    ensures ok { IfOk result
+        (λ root. (d m : List ℕ) × misc.DeclarationAt (xml.after_mark text.now) d × misc.MiscAt d m
+        × misc.DoctypeAt m root.now) }
     ensures no { IfErr result (λ e. Refuses e
-        ((d m root : List ℕ) → misc.DeclarationAt (xml.after_mark text.now) d → misc.MiscAt d m → misc.DoctypeAt m root → ⊥)
-        ((d m root : List ℕ) → misc.DeclarationAt (xml.after_mark text.now) d → misc.MiscAt d m → misc.DoctypeAt m root → ⊥)) }
-    ensures stands { IfErr result (λ e. UnsupportedAt e (λ why at. DocumentRefuses xml.deepest_element text.now (unsupported why) at)) }
-    ensures malformed { IfErr result (λ e. OnMalformed e ((cause : Cause) (at : List ℕ) → DocumentRefuses xml.deepest_element text.now cause at → ⊥)) }
+        ((d m root : List ℕ) → misc.DeclarationAt (xml.after_mark text.now) d → misc.MiscAt d m
+        → misc.DoctypeAt m root → ⊥)
+        ((d m root : List ℕ) → misc.DeclarationAt (xml.after_mark text.now) d → misc.MiscAt d m
+        → misc.DoctypeAt m root → ⊥)) }
+    ensures stands { IfErr result
+        (λ e. UnsupportedAt e
+        (λ why at. DocumentRefuses xml.deepest_element text.now (unsupported why) at)) }
+    ensures malformed { IfErr result
+        (λ e. OnMalformed e
+        ((cause : Cause) (at : List ℕ) → DocumentRefuses xml.deepest_element text.now cause at
+        → ⊥)) }
 {
     let start = past_mark(text);
     let past_declaration = after_declaration(start)?;
@@ -52,8 +61,12 @@ pub(crate) fn document<'b>(arena: &'b Bump, text: &str) -> Result<Raw<'b>, Stop>
         ((d : ℕ) (h : RawTrees) → xml.Reads true d text.now h → ⊥)
         ((d : ℕ) (h : RawTrees) → xml.Reads false d text.now h → ⊥)
         ((h : RawTrees) → xml.Reads true xml.deepest_element text.now h → ⊥)) }
-    ensures stands { IfErr result (λ e. RefusedAt e (DocumentRefuses xml.deepest_element text.now)) }
-    ensures malformed { IfErr result (λ e. OnMalformed e ((cause : Cause) (at : List ℕ) → DocumentRefuses xml.deepest_element text.now cause at → ⊥)) }
+    ensures stands { IfErr result
+        (λ e. RefusedAt e (DocumentRefuses xml.deepest_element text.now)) }
+    ensures malformed { IfErr result
+        (λ e. OnMalformed e
+        ((cause : Cause) (at : List ℕ) → DocumentRefuses xml.deepest_element text.now cause at
+        → ⊥)) }
 {
     let root = before_root(text)?;
     let (tree, rest) = root_element(arena, text.len(), root, DEEPEST)?;

@@ -21,7 +21,8 @@ use tc_model::Node;
 /// The document of a text that holds nothing unusual.
 fn plain_document<'b>(arena: &'b Bump, text: &'b [u8]) -> Option<Node<'b>>
     requires { length text.now ≤ 67108864 }
-    ensures { IfSome result (λ n. (h : RawTrees) × XmlText text.now h × (before n none ≡ stripped h)) }
+    ensures { IfSome result
+        (λ n. (h : RawTrees) × XmlText text.now h × (before n none ≡ stripped h)) }
 {
     let built = take_document(arena, text, TreeBuilder::new(arena))?;
     built.tree()
@@ -35,7 +36,8 @@ fn plain_document<'b>(arena: &'b Bump, text: &'b [u8]) -> Option<Node<'b>>
 /// As `read_raw` refuses a text.
 pub fn read_document<'b>(arena: &'b Bump, text: &'b [u8]) -> Result<Node<'b>, XmlFault>
     requires { length text.now ≤ 67108864 }
-    ensures ok { IfOk result (λ n. (h : RawTrees) × XmlText text.now h × (before n none ≡ stripped h)) }
+    ensures ok { IfOk result
+        (λ n. (h : RawTrees) × XmlText text.now h × (before n none ≡ stripped h)) }
     ensures document { IfOk result (λ n. IsDocument (before n none)) }
     ensures refused { IfErr result (IsFaultOf text.now) }
 {

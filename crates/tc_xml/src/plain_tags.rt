@@ -52,7 +52,8 @@ fn declaration<'b>(
     prefix: &'b str,
     text: &'b str,
 ) -> Option<&'b str>
-    ensures { IfSome result (λ rest. DeclarationRead bindings.old prefix.now text.now bindings.new rest.now) }
+    ensures { IfSome result
+        (λ rest. DeclarationRead bindings.old prefix.now text.now bindings.new rest.now) }
 {
     let Ok((uri, rest)) = quoted(arena, text) else {
         return None;
@@ -71,7 +72,8 @@ fn read_value<'b>(
     name: QualifiedName<'b>,
     text: &'b str,
 ) -> Option<&'b str>
-    ensures { IfSome result (λ rest. ValueRead bindings.old (written_name name.entry) text.now bindings.new rest.now) }
+    ensures { IfSome result
+        (λ rest. ValueRead bindings.old (written_name name.entry) text.now bindings.new rest.now) }
 {
     if let Some(prefix) = declared_by(name) {
         return declaration(arena, bindings, prefix, text);
@@ -86,7 +88,10 @@ fn read_attribute<'b>(
     names: &mut Vec<(&'b str, &'b str), &'b Bump>,
     text: &'b str,
 ) -> Option<&'b str>
-    ensures { IfSome result (λ rest. (total : ℕ) → AttributeRead total bindings.old names.old.items text.now bindings.new names.new.items rest.now) }
+    ensures { IfSome result
+        (λ rest. (total : ℕ)
+        → AttributeRead total bindings.old names.old.items text.now bindings.new names.new.items
+        rest.now) }
 {
     let start = after_some_white(text)?;
     let (name, behind) = qname(start)?;
@@ -108,7 +113,9 @@ fn read_attributes<'b>(
     names: &mut Vec<(&'b str, &'b str), &'b Bump>,
     text: &'b str,
 ) -> Option<&'b str>
-    ensures { IfSome result (λ rest. (total : ℕ) → AllRead total bindings.old text.now bindings.new names.new.items rest.now) }
+    ensures { IfSome result
+        (λ rest. (total : ℕ)
+        → AllRead total bindings.old text.now bindings.new names.new.items rest.now) }
 {
     names.clear();
     let mut rest = text;
@@ -124,7 +131,9 @@ fn read_attributes<'b>(
 /// The name by which the attribute with this name is told from others: its expanded name, which without a prefix has no
 /// namespace (Namespaces, 6.2). A declaration is put into the namespace of declarations, `xmlns` too, which has no prefix.
 fn expand<'b>(bindings: &Bindings<'b>, name: &(&'b str, &'b str)) -> Option<(&'b str, &'b str)>
-    ensures { IfSome result (λ r. (scope : List Bound) → Tells (now_bound bindings.now) scope → expanded_name scope (as_written name.now) ≡ Some (as_expanded r)) }
+    ensures { IfSome result
+        (λ r. (scope : List Bound) → Tells (now_bound bindings.now) scope
+        → expanded_name scope (as_written name.now) ≡ Some (as_expanded r)) }
 {
     let (prefix, local) = *name;
     if let Some(_) = declared_by(QualifiedName { prefix, local }) {
@@ -158,7 +167,9 @@ fn expand_all<'b>(
 /// The expanded name of an element, as `element_name` of `tags` over the bindings of a scope: without a prefix it takes
 /// the default namespace, or none (Namespaces, 6.1 and 6.2).
 fn name_within<'b>(bindings: &Bindings<'b>, written: QualifiedName<'b>) -> Option<Name<'b>>
-    ensures { IfSome result (λ n. (scope : List Bound) → Tells (now_bound bindings.now) scope → ElementName scope (written_name written.entry) (seen_name n)) }
+    ensures { IfSome result
+        (λ n. (scope : List Bound) → Tells (now_bound bindings.now) scope
+        → ElementName scope (written_name written.entry) (seen_name n)) }
 {
     let local = written.local;
     match bindings.uri_of(written.prefix) {
@@ -180,7 +191,8 @@ pub(crate) fn read_tag<'b>(
     names: &mut AttributeNames<'b>,
     text: &'b str,
 ) -> Option<Tag<'b>>
-    ensures { IfSome result (λ tag. (total : ℕ) → TagRead total bindings.old text.now tag bindings.new) }
+    ensures { IfSome result
+        (λ tag. (total : ℕ) → TagRead total bindings.old text.now tag bindings.new) }
 {
     let start = after_byte(text, b'<')?;
     let (written, behind) = qname(start)?;

@@ -20,7 +20,9 @@ pub(crate) fn reference(text: &str) -> Result<(char, &str), Stop>
     ensures no { IfErr result (λ e. Refuses e
         ((s after : List ℕ) → xml.ReferenceAt true text.now s after → ⊥)
         ((s after : List ℕ) → xml.ReferenceAt false text.now s after → ⊥)) }
-    ensures stands { IfErr result (λ e. UnsupportedAt e (λ why at. (why ≡ EntityReference) × (at ≡ text.now) × refusals.OtherEntityAt at)) }
+    ensures stands { IfErr result
+        (λ e. UnsupportedAt e
+        (λ why at. (why ≡ EntityReference) × (at ≡ text.now) × refusals.OtherEntityAt at)) }
 {
     match tc_scan::reference(text) {
         Ok(found) => Ok(found),
@@ -45,7 +47,8 @@ fn after_line_end(text: &str) -> &str
 
 /// Appends characters, each line end as LF (XML 1.0, 2.11).
 pub(crate) fn push_lines(out: &mut String<&Bump>, run: &str) -> Result<(), NoMemory>
-    ensures { OnOk result (string_bytes out.new ≡ string_bytes out.old ++ xml_bytes.line_ends run.now) }
+    ensures { OnOk result
+        (string_bytes out.new ≡ string_bytes out.old ++ xml_bytes.line_ends run.now) }
 {
     let mut rest = run;
     while let Some(at) = memchr(b'\r', rest.as_bytes()) {
@@ -60,7 +63,8 @@ pub(crate) fn push_lines(out: &mut String<&Bump>, run: &str) -> Result<(), NoMem
 
 /// Appends characters, each line end and each tab as a space (XML 1.0, 2.11 and 3.3.3).
 fn push_spaced(out: &mut String<&Bump>, run: &str) -> Result<(), NoMemory>
-    ensures { OnOk result (string_bytes out.new ≡ string_bytes out.old ++ xml.spaced (xml_bytes.line_ends run.now)) }
+    ensures { OnOk result
+        (string_bytes out.new ≡ string_bytes out.old ++ xml.spaced (xml_bytes.line_ends run.now)) }
 {
     let mut rest = run;
     while let Some(at) = memchr3(b'\r', b'\n', b'\t', rest.as_bytes()) {
@@ -77,11 +81,15 @@ fn push_spaced(out: &mut String<&Bump>, run: &str) -> Result<(), NoMemory>
 /// gives what follows it.
 fn push_piece<'t>(value: &mut String<&Bump>, text: &'t str, quote: u8) -> Result<&'t str, Stop>
     requires is_quote { xml_bytes.IsQuote quote }
-    ensures ok { IfOk result (λ rest. (piece : List ℕ) × PieceAt false quote text.now piece rest.now × (string_bytes value.new ≡ string_bytes value.old ++ piece)) }
+    ensures ok { IfOk result
+        (λ rest. (piece : List ℕ) × PieceAt false quote text.now piece rest.now
+        × (string_bytes value.new ≡ string_bytes value.old ++ piece)) }
     ensures no { IfErr result (λ e. Refuses e
         ((piece rest : List ℕ) → PieceAt true quote text.now piece rest → ⊥)
         ((piece rest : List ℕ) → PieceAt false quote text.now piece rest → ⊥)) }
-    ensures stands { IfErr result (λ e. UnsupportedAt e (λ why at. (why ≡ EntityReference) × (at ≡ text.now) × refusals.OtherEntityAt at)) }
+    ensures stands { IfErr result
+        (λ e. UnsupportedAt e
+        (λ why at. (why ≡ EntityReference) × (at ≡ text.now) × refusals.OtherEntityAt at)) }
 {
     let count = plain_len_within(text, quote);
     if count == 0 {
@@ -100,8 +108,11 @@ pub(crate) fn quoted<'b, 't>(arena: &'b Bump, text: &'t str) -> Result<(&'b str,
     ensures no { IfErr result (λ e. Refuses e
         ((v after : List ℕ) → xml.QuotedAt true text.now v after → ⊥)
         ((v after : List ℕ) → xml.QuotedAt false text.now v after → ⊥)) }
-    ensures stands { IfErr result (λ e. UnsupportedAt e (λ why at. (why ≡ EntityReference) × refusals.QuotedRefuses text.now at)) }
-    ensures malformed { IfErr result (λ e. OnMalformed e ((at : List ℕ) → refusals.QuotedRefuses text.now at → ⊥)) }
+    ensures stands { IfErr result
+        (λ e. UnsupportedAt e
+        (λ why at. (why ≡ EntityReference) × refusals.QuotedRefuses text.now at)) }
+    ensures malformed { IfErr result
+        (λ e. OnMalformed e ((at : List ℕ) → refusals.QuotedRefuses text.now at → ⊥)) }
 {
     let Some((quote, inside)) = quote(text) else {
         return Err(Stop::Malformed(text.len()));
@@ -119,7 +130,8 @@ pub(crate) fn quoted<'b, 't>(arena: &'b Bump, text: &'t str) -> Result<(&'b str,
 /// What follows the run of characters or the reference at the front of what is left of a value.
 fn after_piece<'t>(text: &'t str, quote: u8) -> Option<&'t str>
     requires { xml_bytes.IsQuote quote }
-    ensures { IfSome result (λ rest. (piece : List ℕ) × PieceAt false quote text.now piece rest.now) }
+    ensures { IfSome result
+        (λ rest. (piece : List ℕ) × PieceAt false quote text.now piece rest.now) }
 {
     let count = plain_len_within(text, quote);
     if count == 0 {
@@ -134,7 +146,8 @@ fn after_piece<'t>(text: &'t str, quote: u8) -> Option<&'t str>
 
 /// What follows the attribute value in quotes at the front, which isn't made.
 pub(crate) fn after_quoted<'t>(text: &'t str) -> Option<&'t str>
-    ensures { IfSome result (λ rest. (value : List ℕ) × xml.QuotedAt false text.now value rest.now) }
+    ensures { IfSome result
+        (λ rest. (value : List ℕ) × xml.QuotedAt false text.now value rest.now) }
 {
     let (quote, inside) = quote(text)?;
     let mut rest = inside;

@@ -65,7 +65,8 @@ pub(crate) fn first_scope<'b>(arena: &'b Bump) -> Result<Scope<'b>, Stop>
 /// The prefix that an attribute with this name declares, where it is a declaration (Namespaces, 3, [1] to [3]).
 pub(crate) fn declared_by<'t>(name: QualifiedName<'t>) -> Option<&'t str>
     ensures { MatchOption result (IsFalse (is_declaring (written_name name.entry)))
-        (λ prefix. IsTrue (is_declaring (written_name name.entry)) × (prefix.now ≡ declared_prefix (written_name name.entry))) }
+        (λ prefix. IsTrue (is_declaring (written_name name.entry))
+        × (prefix.now ≡ declared_prefix (written_name name.entry))) }
 {
     match (name.prefix, name.local) {
         ("", "xmlns") => Some(""),
@@ -77,14 +78,16 @@ pub(crate) fn declared_by<'t>(name: QualifiedName<'t>) -> Option<&'t str>
 /// The prefix that this attribute declares, where it is a declaration.
 fn declared<'t>(attribute: &Written<'_, 't>) -> Option<&'t str>
     ensures { MatchOption result (IsFalse (xml.is_declaration (written attribute.now)))
-        (λ prefix. IsTrue (xml.is_declaration (written attribute.now)) × (prefix.now ≡ (xml.binding_of (written attribute.now)).prefix)) }
+        (λ prefix. IsTrue (xml.is_declaration (written attribute.now))
+        × (prefix.now ≡ (xml.binding_of (written attribute.now)).prefix)) }
 {
     declared_by(attribute.name)
 }
 
 /// Whether this prefix may be bound to this namespace name (Namespaces, 3 and 5).
 pub(crate) fn is_lawful(prefix: &str, uri: &str) -> bool
-    ensures { MatchBool result (xml.IsLawfulBinding (bound_to prefix.now uri.now)) (xml.IsLawfulBinding (bound_to prefix.now uri.now) → ⊥) }
+    ensures { MatchBool result (xml.IsLawfulBinding (bound_to prefix.now uri.now))
+        (xml.IsLawfulBinding (bound_to prefix.now uri.now) → ⊥) }
 {
     prefix != "xmlns"
         && uri != XMLNS
@@ -94,7 +97,8 @@ pub(crate) fn is_lawful(prefix: &str, uri: &str) -> bool
 
 /// Binds a prefix, which an empty namespace name leaves unbound.
 fn bind<'b>(names: &mut Names<'b>, prefix: &'b str, uri: &'b str) -> Result<(), Stop>
-    ensures ok { OnOk result (named names.new ≡ xml.bound_in (bound_to prefix.now uri.now) (named names.old)) }
+    ensures ok { OnOk result
+        (named names.new ≡ xml.bound_in (bound_to prefix.now uri.now) (named names.old)) }
     ensures no { IfErr result (λ e. Breaks e ⊥) }
 {
     if uri == "" {
@@ -111,7 +115,8 @@ fn declare<'b>(
     names: &mut Names<'b>,
     attribute: &Written<'b, '_>,
 ) -> Result<(), Stop>
-    ensures ok { OnOk result (named names.new ≡ xml.scope_within (named names.old) (written attribute.now ∷ [])) }
+    ensures ok { OnOk result
+        (named names.new ≡ xml.scope_within (named names.old) (written attribute.now ∷ [])) }
     ensures no { IfErr result (λ e. Breaks e ⊥) }
 {
     let Some(prefix) = declared(attribute) else {
@@ -127,7 +132,8 @@ fn declare_all<'b>(
     names: &mut Names<'b>,
     attributes: &[Written<'b, '_>],
 ) -> Result<(), Stop>
-    ensures ok { OnOk result (named names.new ≡ xml.scope_within (named names.old) (map written attributes.now)) }
+    ensures ok { OnOk result
+        (named names.new ≡ xml.scope_within (named names.old) (map written attributes.now)) }
     ensures no { IfErr result (λ e. Breaks e ⊥) }
 {
     for attribute in attributes {
@@ -138,7 +144,8 @@ fn declare_all<'b>(
 
 /// Whether one of these attributes is a declaration.
 fn declare_some(attributes: &[Written<'_, '_>]) -> bool
-    ensures { IsFalse result → (scope : List Bound) → xml.scope_within scope (map written attributes.now) ≡ scope }
+    ensures { IsFalse result → (scope : List Bound)
+        → xml.scope_within scope (map written attributes.now) ≡ scope }
 {
     for attribute in attributes {
         if declared(attribute).is_some() {
@@ -154,7 +161,8 @@ fn scope_within<'b>(
     outer: Scope<'b>,
     attributes: &[Written<'b, '_>],
 ) -> Result<Scope<'b>, Stop>
-    ensures ok { IfOk result (λ s. in_scope s ≡ xml.scope_within (in_scope outer.entry) (map written attributes.now)) }
+    ensures ok { IfOk result
+        (λ s. in_scope s ≡ xml.scope_within (in_scope outer.entry) (map written attributes.now)) }
     ensures no { IfErr result (λ e. Breaks e ⊥) }
 {
     if !declare_some(attributes) {
@@ -169,7 +177,8 @@ fn scope_within<'b>(
 fn attribute_uri<'b>(scope: Scope<'b>, prefix: &str) -> Option<&'b str>
     ensures { MatchBool (xml.is_empty prefix.now)
         (MatchOption result ⊥ (λ uri. uri.now ≡ []))
-        (MatchOption result (xml.uri_of (in_scope scope.entry) prefix.now ≡ None) (λ uri. xml.uri_of (in_scope scope.entry) prefix.now ≡ Some uri.now)) }
+        (MatchOption result (xml.uri_of (in_scope scope.entry) prefix.now ≡ None)
+        (λ uri. xml.uri_of (in_scope scope.entry) prefix.now ≡ Some uri.now)) }
 {
     if prefix == "" {
         return Some("");
@@ -184,8 +193,13 @@ fn expanded<'b>(
     attribute: &Written<'b, '_>,
     left: usize,
 ) -> Result<Option<RawAttr<'b>>, Stop>
-    ensures ok { IfOk result (λ r. xml.Expands (in_scope scope.entry) (written attribute.now ∷ []) (option_to_list (option_map seen.attribute r))) }
-    ensures no { IfErr result (λ e. Breaks e ((found : List Attribute) → xml.Expands (in_scope scope.entry) (written attribute.now ∷ []) found → ⊥)) }
+    ensures ok { IfOk result
+        (λ r. xml.Expands (in_scope scope.entry) (written attribute.now ∷ [])
+        (option_to_list (option_map seen.attribute r))) }
+    ensures no { IfErr result
+        (λ e. Breaks e
+        ((found : List Attribute)
+        → xml.Expands (in_scope scope.entry) (written attribute.now ∷ []) found → ⊥)) }
 {
     if let Some(prefix) = declared(attribute) {
         if is_lawful(prefix, attribute.value) {
@@ -211,8 +225,13 @@ fn all_expanded<'b>(
     attributes: &[Written<'b, '_>],
     left: usize,
 ) -> Result<&'b [RawAttr<'b>], Stop>
-    ensures ok { IfOk result (λ r. xml.Expands (in_scope scope.entry) (map written attributes.now) (map seen.attribute r.now)) }
-    ensures no { IfErr result (λ e. Breaks e ((found : List Attribute) → xml.Expands (in_scope scope.entry) (map written attributes.now) found → ⊥)) }
+    ensures ok { IfOk result
+        (λ r. xml.Expands (in_scope scope.entry) (map written attributes.now)
+        (map seen.attribute r.now)) }
+    ensures no { IfErr result
+        (λ e. Breaks e
+        ((found : List Attribute)
+        → xml.Expands (in_scope scope.entry) (map written attributes.now) found → ⊥)) }
 {
     let mut found = Vec::new(arena);
     for attribute in attributes {
@@ -232,8 +251,12 @@ fn element_name<'b>(
     name: QualifiedName<'_>,
     left: usize,
 ) -> Result<Name<'b>, Stop>
-    ensures ok { IfOk result (λ n. xml.ElementName (in_scope scope.entry) (written_name name.entry) (seen.name n)) }
-    ensures no { IfErr result (λ e. Breaks e ((n : ExpandedName) → xml.ElementName (in_scope scope.entry) (written_name name.entry) n → ⊥)) }
+    ensures ok { IfOk result
+        (λ n. xml.ElementName (in_scope scope.entry) (written_name name.entry) (seen.name n)) }
+    ensures no { IfErr result
+        (λ e. Breaks e
+        ((n : ExpandedName) → xml.ElementName (in_scope scope.entry) (written_name name.entry) n
+        → ⊥)) }
 {
     let local = arena.try_alloc_str(name.local)?;
     match scope.uri_of(name.prefix) {
@@ -285,10 +308,14 @@ fn meaning_within<'b>(
     attributes: &[Written<'b, '_>],
     left: usize,
 ) -> Result<Meaning<'b>, Stop>
-    ensures ok { IfOk result (λ m. (in_scope m.scope ≡ in_scope scope.entry) × xml.ElementName (in_scope scope.entry) (written_name tag.entry) (seen.name m.name)
-        × xml.Expands (in_scope scope.entry) (map written attributes.now) (map seen.attribute m.attrs.now) × IsDistinct same_name (map (λ a. a.name) (map seen.attribute m.attrs.now))) }
+    ensures ok { IfOk result (λ m. (in_scope m.scope ≡ in_scope scope.entry)
+        × xml.ElementName (in_scope scope.entry) (written_name tag.entry) (seen.name m.name)
+        × xml.Expands (in_scope scope.entry) (map written attributes.now)
+        (map seen.attribute m.attrs.now)
+        × IsDistinct same_name (map (λ a. a.name) (map seen.attribute m.attrs.now))) }
     ensures no { IfErr result (λ e. Breaks e ((name : ExpandedName) (expanded : List Attribute)
-        → xml.ElementName (in_scope scope.entry) (written_name tag.entry) name → xml.Expands (in_scope scope.entry) (map written attributes.now) expanded
+        → xml.ElementName (in_scope scope.entry) (written_name tag.entry) name
+        → xml.Expands (in_scope scope.entry) (map written attributes.now) expanded
         → IsDistinct same_name (map (λ a. a.name) expanded) → ⊥)) }
 {
     let name = element_name(arena, scope, tag, left)?;
@@ -310,11 +337,14 @@ pub(crate) fn meaning_of<'b>(
     left: usize,
 ) -> Result<Meaning<'b>, Stop>
     requires no_space { IsTrue (lacks_space (map written attributes.now)) }
-    ensures ok { IfOk result (λ m. xml.TagMeans (in_scope outer.entry) (written_name tag.entry) (map written attributes.now)
+    ensures ok { IfOk result
+        (λ m. xml.TagMeans (in_scope outer.entry) (written_name tag.entry)
+        (map written attributes.now)
         (in_scope m.scope) (seen.name m.name) (map seen.attribute m.attrs.now)) }
     ensures no { IfErr result (λ e. Breaks e
         ((scope : List Bound) (name : ExpandedName) (expanded : List Attribute)
-        → xml.TagMeans (in_scope outer.entry) (written_name tag.entry) (map written attributes.now) scope name expanded → ⊥)) }
+        → xml.TagMeans (in_scope outer.entry) (written_name tag.entry)
+        (map written attributes.now) scope name expanded → ⊥)) }
 {
     let written_once = are_written_once(arena, attributes)?;
     if !written_once {

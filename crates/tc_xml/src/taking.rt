@@ -223,7 +223,8 @@ fn leave<'b, T: TakesTrees<'b>>(
 ) -> Option<()>
     ensures taken { IfSome result (λ _. T.takes reader.old.taker ended reader.new.taker) }
     ensures run { reader.new.run ≡ reader.old.run }
-    ensures bindings { IfSome result (λ _. TakesBack levels.old.bindings count levels.new.bindings) }
+    ensures bindings { IfSome result
+        (λ _. TakesBack levels.old.bindings count levels.new.bindings) }
     ensures opens { levels.new.open.items ≡ levels.old.open.items }
     ensures depth { levels.new.depth ≡ levels.old.depth }
 {
@@ -413,7 +414,9 @@ fn take_root<'b, T: TakesTrees<'b>>(
 ) -> Option<&'b str>
     requires total { total ≤ 67108864 }
     requires run { run_text reader.old.run ≡ [] }
-    ensures { IfSome result (λ rest. Finished T.takes total deepest_element root.now reader.old.taker rest.now reader.new.taker) }
+    ensures { IfSome result
+        (λ rest. Finished T.takes total deepest_element root.now reader.old.taker rest.now
+        reader.new.taker) }
 {
     let mut levels = Levels::first(reader.arena)?;
     past_elements(reader, &mut levels, total, root)

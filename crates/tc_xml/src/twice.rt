@@ -17,7 +17,8 @@ const MANY: usize = 65_536;
 
 /// Whether this name is among these.
 fn occurs(names: &[(&str, &str)], name: &(&str, &str)) -> bool
-    ensures { MatchBool result (AllByRecursion (Differs name.now) names.now → ⊥) (AllByRecursion (Differs name.now) names.now) }
+    ensures { MatchBool result (AllByRecursion (Differs name.now) names.now → ⊥)
+        (AllByRecursion (Differs name.now) names.now) }
 {
     for other in names {
         if *name == *other {
@@ -29,7 +30,8 @@ fn occurs(names: &[(&str, &str)], name: &(&str, &str)) -> bool
 
 /// Whether no two of a few names are the same.
 fn few_differ(names: &[(&str, &str)]) -> bool
-    ensures { MatchBool result (IsDistinct same_pair names.now) (IsDistinct same_pair names.now → ⊥) }
+    ensures { MatchBool result (IsDistinct same_pair names.now)
+        (IsDistinct same_pair names.now → ⊥) }
 {
     for at in 0..names.len() {
         if occurs(&names[at + 1..], &names[at]) {
@@ -45,7 +47,9 @@ type Seen<'n, 'b> = IndexSet<(&'n str, &'n str), BuildHasherDefault<FoldHasher>,
 /// Whether no two names are the same, where none was seen yet.
 fn none_recurs<'n>(seen: &mut Seen<'n, '_>, names: &[(&'n str, &'n str)]) -> Result<bool, Stop>
     requires { seen.old.keys ≡ [] }
-    ensures ok { IfOk result (λ once. MatchBool once (IsDistinct same_pair names.now) (IsDistinct same_pair names.now → ⊥)) }
+    ensures ok { IfOk result
+        (λ once. MatchBool once (IsDistinct same_pair names.now)
+        (IsDistinct same_pair names.now → ⊥)) }
     ensures no { IfErr result (λ e. Breaks e ⊥) }
 {
     for name in names {
@@ -59,7 +63,9 @@ fn none_recurs<'n>(seen: &mut Seen<'n, '_>, names: &[(&'n str, &'n str)]) -> Res
 
 /// Whether no two of many names are the same.
 fn many_differ(arena: &Bump, names: &[(&str, &str)]) -> Result<bool, Stop>
-    ensures ok { IfOk result (λ once. MatchBool once (IsDistinct same_pair names.now) (IsDistinct same_pair names.now → ⊥)) }
+    ensures ok { IfOk result
+        (λ once. MatchBool once (IsDistinct same_pair names.now)
+        (IsDistinct same_pair names.now → ⊥)) }
     ensures no { IfErr result (λ e. Breaks e ⊥) }
 {
     let mut seen = IndexSet::new(arena);
@@ -68,7 +74,9 @@ fn many_differ(arena: &Bump, names: &[(&str, &str)]) -> Result<bool, Stop>
 
 /// Whether no two names are the same.
 pub(crate) fn all_differ(arena: &Bump, names: &[(&str, &str)]) -> Result<bool, Stop>
-    ensures ok { IfOk result (λ once. MatchBool once (IsDistinct same_pair names.now) (IsDistinct same_pair names.now → ⊥)) }
+    ensures ok { IfOk result
+        (λ once. MatchBool once (IsDistinct same_pair names.now)
+        (IsDistinct same_pair names.now → ⊥)) }
     ensures no { IfErr result (λ e. Breaks e ⊥) }
 {
     if names.len() <= FEW {
