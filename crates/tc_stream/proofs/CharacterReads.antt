@@ -68,24 +68,29 @@ by_char (parts.Declaration k) a b c d e f g = refl
 by_char (parts.Doctype k) a b c d e f g = refl
 by_char (parts.Tag q) a b c d e f g = absurd (f q refl)
 by_char parts.EndTag a b c d e f g = absurd (g refl)
+by_char parts.DeepName a b c d e f g = refl
+by_char parts.DeepPrefix a b c d e f g = refl
 
 pub no_other : (part : Part) → IsTrue (is_by_char part) → (part ≡ parts.Markup → ⊥) → (part ≡ parts.Marked → ⊥) → ((m : Mark) (n : ℕ) → part ≡ parts.Mark m n → ⊥) → ((k : Reference) → part ≡ parts.Reference k → ⊥)
-    → ((t : Option Word) → part ≡ parts.Target t → ⊥) → (part ≡ parts.Targeted → ⊥) → ((k : Declaration) → part ≡ parts.Declaration k → ⊥) → ((k : Doctype) → part ≡ parts.Doctype k → ⊥) → ⊥
-no_other parts.Between h a b c d e f g i = true≢false (sym h)
-no_other (parts.Data n) h a b c d e f g i = true≢false (sym h)
-no_other parts.Markup h a b c d e f g i = a refl
-no_other parts.Marked h a b c d e f g i = b refl
-no_other (parts.Mark m n) h a b c d e f g i = c m n refl
-no_other (parts.Reference k) h a b c d e f g i = d k refl
-no_other (parts.Comment n) h a b c d e f g i = true≢false (sym h)
-no_other (parts.Cdata n) h a b c d e f g i = true≢false (sym h)
-no_other (parts.Target t) h a b c d e f g i = e t refl
-no_other parts.Targeted h a b c d e f g i = f refl
-no_other (parts.Instruction n) h a b c d e f g i = true≢false (sym h)
-no_other (parts.Declaration k) h a b c d e f g i = g k refl
-no_other (parts.Doctype k) h a b c d e f g i = i k refl
-no_other (parts.Tag q) h a b c d e f g i = true≢false (sym h)
-no_other parts.EndTag h a b c d e f g i = true≢false (sym h)
+    → ((t : Option Word) → part ≡ parts.Target t → ⊥) → (part ≡ parts.Targeted → ⊥) → ((k : Declaration) → part ≡ parts.Declaration k → ⊥) → ((k : Doctype) → part ≡ parts.Doctype k → ⊥)
+    → (part ≡ parts.DeepName → ⊥) → (part ≡ parts.DeepPrefix → ⊥) → ⊥
+no_other parts.Between h a b c d e f g i j k = true≢false (sym h)
+no_other (parts.Data n) h a b c d e f g i j k = true≢false (sym h)
+no_other parts.Markup h a b c d e f g i j k = a refl
+no_other parts.Marked h a b c d e f g i j k = b refl
+no_other (parts.Mark m n) h a b c d e f g i j k = c m n refl
+no_other (parts.Reference r) h a b c d e f g i j k = d r refl
+no_other (parts.Comment n) h a b c d e f g i j k = true≢false (sym h)
+no_other (parts.Cdata n) h a b c d e f g i j k = true≢false (sym h)
+no_other (parts.Target t) h a b c d e f g i j k = e t refl
+no_other parts.Targeted h a b c d e f g i j k = f refl
+no_other (parts.Instruction n) h a b c d e f g i j k = true≢false (sym h)
+no_other (parts.Declaration r) h a b c d e f g i j k = g r refl
+no_other (parts.Doctype r) h a b c d e f g i j k = i r refl
+no_other (parts.Tag q) h a b c d e f g i j k = true≢false (sym h)
+no_other parts.EndTag h a b c d e f g i j k = true≢false (sym h)
+no_other parts.DeepName h a b c d e f g i j k = j refl
+no_other parts.DeepPrefix h a b c d e f g i j k = k refl
 
 -- whether a target begins an XML declaration
 

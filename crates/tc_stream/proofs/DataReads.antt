@@ -45,10 +45,10 @@ pub record Runs (x : Grammar) (s : Reader) (pending : List ℕ) (standing : Stan
   pub known : InContent x pending s.elements standing
 
 pub nothing_pends : {x : Grammar} {s : Reader} {chars : List ℕ} → s.part ≡ parts.Between → (r : ReadsTo x s chars) → r.pending ≡ []
-nothing_pends {x} {s} {chars} e r = subst (λ p. Pends (length r.before) p s.tag.bytes.items r.pending) e r.pends
+nothing_pends {x} {s} {chars} e r = subst (λ p. Pends (length r.before) p s r.pending) e r.pends
 
 data_pends : {x : Grammar} {s : Reader} {chars : List ℕ} (k : ℕ) → s.part ≡ parts.Data k → (r : ReadsTo x s chars) → IsData k r.pending
-data_pends {x} {s} {chars} k e r = subst (λ p. Pends (length r.before) p s.tag.bytes.items r.pending) e r.pends
+data_pends {x} {s} {chars} k e r = subst (λ p. Pends (length r.before) p s r.pending) e r.pends
 
 data_place : {x : Grammar} {s : Reader} {chars : List ℕ} (k : ℕ) → s.part ≡ parts.Data k → ReadsTo x s chars → s.phase ≡ phases.Content
 data_place {x} {s} {chars} k e r = subst (λ p. MayPend s.phase p) e r.may
@@ -86,7 +86,7 @@ run_reads {x} {old} {new} {chars} {blank} run brackets known r d h some plain sc
     } in
     let tells : Tells x (r.pending ++ run) (parts.Data known) new.elements phases.Content r.standing = text_taken run (parts.Data known) (r.pending ++ run) refl white t d.known in
     grown run r h phase (λ _. begun)
-    (subst (λ q. Pends (length r.before) q new.tag.bytes.items (r.pending ++ run)) (sym part) is)
+    (subst (λ q. Pends (length r.before) q new (r.pending ++ run)) (sym part) is)
     (subst (λ q. MayPend new.phase q) (sym part) (phase ∙ d.inside))
     (subst (λ p. Tells x (r.pending ++ run) new.part new.elements p r.standing) (sym (phase ∙ d.inside)) (subst (λ q. Tells x (r.pending ++ run) q new.elements phases.Content r.standing) (sym part) tells))
 
@@ -190,7 +190,7 @@ ascii_chars b low h = subst IsChars (encode_ascii b low) (one_char b h)
 
 -- an item begins with such a byte
 pub item_begun : {old new : Reader} {text rest : List ℕ} (end place b : ℕ) → text ≡ b ∷ rest → b < 128 → is_char b ≡ true → is_plain b ≡ false → IsOpen old → IsReading old → new.elements ≡ old.elements → new.phase ≡ old.phase
-    → new.begun ≡ place → place + length text ≡ end → known_text new.part (b ∷ []) ≡ [] → ((n : ℕ) → Pends n new.part new.tag.bytes.items (b ∷ [])) → MayPend phases.Content new.part → ReadsOn old new text rest end
+    → new.begun ≡ place → place + length text ≡ end → known_text new.part (b ∷ []) ≡ [] → ((n : ℕ) → Pends n new.part new (b ∷ [])) → MayPend phases.Content new.part → ReadsOn old new text rest end
 item_begun {old} {new} {text} {rest} end place b is low lawful stops open_at ready elements phase begun fits known pends may = record {
   used = b ∷ [];
   parts = is;
@@ -211,7 +211,7 @@ pub markup_begun : {old new : Reader} {text rest : List ℕ} (end place : ℕ) �
     → place + length text ≡ end → ReadsOn old new text rest end
 markup_begun {old} {new} {text} {rest} end place is open_at ready part elements phase begun fits =
     item_begun end place 0x3C is (omega arith) refl refl open_at ready elements phase begun fits (ap (λ p. known_text p (0x3C ∷ [])) part)
-    (λ n. subst (λ p. Pends n p new.tag.bytes.items (0x3C ∷ [])) (sym part) refl) (subst (λ p. MayPend phases.Content p) (sym part) not_mark)
+    (λ n. subst (λ p. Pends n p new (0x3C ∷ [])) (sym part) refl) (subst (λ p. MayPend phases.Content p) (sym part) not_mark)
   where
     not_mark : phases.Content ≢ phases.Mark
     not_mark e = cc
@@ -220,7 +220,7 @@ pub reference_begun : {old new : Reader} {text rest : List ℕ} (end place : ℕ
     → new.begun ≡ place → place + length text ≡ end → ReadsOn old new text rest end
 reference_begun {old} {new} {text} {rest} end place is open_at ready part elements phase begun fits =
     item_begun end place 0x26 is (omega arith) refl refl open_at ready elements phase begun fits (ap (λ p. known_text p (0x26 ∷ [])) part)
-    (λ n. subst (λ p. Pends n p new.tag.bytes.items (0x26 ∷ [])) (sym part) (scan.begun, [], refl, refl, refl)) (subst (λ p. MayPend phases.Content p) (sym part) refl)
+    (λ n. subst (λ p. Pends n p new (0x26 ∷ [])) (sym part) (scan.begun, [], refl, refl, refl)) (subst (λ p. MayPend phases.Content p) (sym part) refl)
 
 -- in content a text that isn't plain begins with such a byte
 pub plain_or_mark : (text : List ℕ) → 0 < length text → prefix_len is_plain text ≡ 0 → ((r : List ℕ) → text ≡ 0x26 ∷ r → ⊥) → ((r : List ℕ) → text ≡ 0x3C ∷ r → ⊥) → ⊥

@@ -1,17 +1,15 @@
 -- What still comes of a text where a construct stands that isn't read: that it is refused there, whatever follows.
-use Rattle.std.proofs.Common.{◌≡◌, ℕ, suc, ◌<◌, ◌≤◌, ◌+◌, ◌-◌, List, [], ◌∷◌, ◌++◌, refl, ap, ◌∙◌, sym, subst, length, take, arith, None, append_assoc, length-append}
+use Rattle.std.proofs.Common.{◌≡◌, ℕ, ◌<◌, ◌≤◌, ◌+◌, ◌-◌, List, [], ◌∷◌, ◌++◌, refl, ap, ◌∙◌, sym, subst, length, arith, None, length-append}
 use Rattle.std.specs.Prelude.{◌↔◌}
-use Rattle.std.proofs.Math.Seq.{take-append-add}
 use Rattle.tc_base.specs.declared.reasons.Why.{Why}
 use Rattle.tc_base.specs.declared.reasons.Why.TheVariants.{EntityReference}
 use Rattle.tc_model.specs.Names.{IsChars}
 use Rattle.tc_model.specs.RawTrees.{Bound}
-use Rattle.tc_model.specs.XmlTextBytes.{FrontOf, place_of}
-use Rattle.tc_model.specs.XmlTextRefusals.{Cause, unsupported, OtherEntityAt, TagRefuses, tag}
-use Rattle.tc_stream.specs.XmlTextTags.{WrittenElement}
-use Rattle.tc_stream.specs.XmlTextMeasures.{longest_tag, IsLongTag}
+use Rattle.tc_model.specs.XmlTextBytes.{place_of}
+use Rattle.tc_model.specs.XmlTextRefusals.{Cause, unsupported, OtherEntityAt, TagRefuses}
+use Rattle.tc_stream.specs.XmlTextMeasures.{longest_tag}
 use Rattle.tc_stream.specs.Outcomes.{Outcome, refused}
-use Rattle.tc_stream.specs.Goes.{Level, all_written, depth_left, IsLong, Goes, construct}
+use Rattle.tc_stream.specs.Goes.{Level, depth_left, Goes, construct}
 use Rattle.tc_stream.specs.From.{Standing, open_in, FromPhase, StillComes}
 use Rattle.tc_stream.specs.Scans.{ended, tag_scan}
 use Rattle.tc_stream.specs.declared.phases.Phase.{Phase}
@@ -20,6 +18,7 @@ use Rattle.tc_stream.proofs.StepLaws.{front_behind, front_past}
 use Rattle.tc_stream.proofs.TextLaws.{over_entity}
 use Rattle.tc_stream.proofs.TagSteps.{over_final}
 use Rattle.tc_stream.proofs.RefusedLaws.{tag_refused_kept}
+use Rattle.tc_stream.proofs.LongLaws.{not_long, tag_starts}
 use Rattle.tc_stream.proofs.FrontExists.{front_exists}
 
 place_here : (n : ℕ) (w : List ℕ) → place_of (n + length w) w ≡ n
@@ -53,19 +52,7 @@ entity_step n item r l ls scope run o chars a =
     let same : refused (unsupported EntityReference) (place_of (n + length (item ++ f)) (item ++ f)) ≡ refused (unsupported EntityReference) n = ap (refused (unsupported EntityReference)) (place_here n (item ++ f)) in
     ((λ g. there.0 g ∙ same), (λ e. there.1 (e ∙ sym same))))
 
--- a tag that is kept up to its end, in which something isn't read, passes no limit
-refused_not_long : {total d : ℕ} {es : List WrittenElement} {outer : List Bound} {why : Why} {at : List ℕ} (item f : List ℕ) → IsChars item → length item ≤ longest_tag → tag_scan None item ≡ ended []
-    → TagRefuses item why at → IsLongTag total es outer (suc d) (item ++ f) → ⊥
-refused_not_long {total} {d} {outer = outer} {why = why} {at = at} item f chars low scanned k long =
-    let sum : length item + (longest_tag - length item) ≡ longest_tag = omega (arith, low) in
-    let split : take longest_tag (item ++ f) ≡ item ++ take (longest_tag - length item) f = ap (λ m. take m (item ++ f)) (sym sum) ∙ take-append-add item f (longest_tag - length item) in
-    let b = front_past {item = item} {r = take (longest_tag - length item) f} {front = long.begun} chars (subst (λ w. FrontOf w long.begun) split long.is_begun) in
-    long.goes_on.not_refused (unsupported why) (at ++ b.rest) (λ r.
-    let there : TagRefuses (item ++ (b.rest ++ r)) why (at ++ (b.rest ++ r)) = tag_refused_kept (b.rest ++ r) chars scanned k in
-    let bytes : item ++ (b.rest ++ r) ≡ long.begun ++ r = sym (append_assoc item b.rest r) ∙ ap (λ w. w ++ r) (sym b.whole) in
-    tag (subst (λ w. TagRefuses w why ((at ++ b.rest) ++ r)) bytes (subst (λ w. TagRefuses (item ++ (b.rest ++ r)) why w) (sym (append_assoc at b.rest r)) there)))
-
--- a construct in a tag
+-- a construct in a tag that is kept up to its end: it passes no limit
 pub construct_step : (n : ℕ) (item at r : List ℕ) (why : Why) (ls : List Level) (outer : List Bound) (run : List ℕ) (o : Outcome) → IsChars item → length item ≤ longest_tag
     → tag_scan None item ≡ ended [] → 0 < depth_left ls → TagRefuses item why at → length at ≤ length item
     → StillComes n phases.Content (open_in ls outer run) (item ++ r) o ↔ (o ≡ refused (unsupported why) (n + (length item - length at)))
@@ -74,13 +61,8 @@ construct_step n item at r why ls outer run o chars low scanned some k within =
     (λ f z.
     let same : refused (unsupported why) (place_of (n + length (item ++ f)) (at ++ f)) ≡ refused (unsupported why) (n + (length item - length at)) =
     ap (refused (unsupported why)) (place_within n item at f within) in
+    let there = tag_refused_kept f chars scanned k in
     let one : Goes (n + length (item ++ f)) ls outer run (item ++ f) (refused (unsupported why) (place_of (n + length (item ++ f)) (at ++ f))) =
-    construct some (tag_refused_kept f chars scanned k) (not_long (n + length (item ++ f)) f) in
-    let there = over_final z one in
-    ((λ g. there.0 g ∙ same), (λ e. there.1 (e ∙ sym same))))
-  where
-    deep_enough : depth_left ls ≡ suc (depth_left ls - 1)
-    deep_enough = omega (arith, some)
-
-    not_long : (total : ℕ) (f : List ℕ) → IsLong total ls outer (item ++ f) → ⊥
-    not_long total f long = refused_not_long item f chars low scanned k (subst (λ d. IsLongTag total (all_written ls) outer d (item ++ f)) deep_enough long)
+    construct some there (λ long. not_long item f scanned low (tag_starts there.opens there.names) long) in
+    let over = over_final z one in
+    ((λ g. over.0 g ∙ same), (λ e. over.1 (e ∙ sym same))))

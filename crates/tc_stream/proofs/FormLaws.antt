@@ -23,18 +23,16 @@ use Rattle.tc_stream.specs.Forms.{AttributeAt, lacks_space, Refuses, Unsupported
 use Rattle.tc_stream.specs.Values as pieces
 use Rattle.tc_stream.specs.Values.{PieceAt}
 use Rattle.tc_stream.specs.declared.tags.NoForm.{NoForm}
-use Rattle.tc_stream.specs.declared.tags.NoForm.TheVariants.{Malformed, Short, Unsupported}
+use Rattle.tc_stream.specs.declared.tags.NoForm.TheVariants.{Malformed, Unsupported}
 
 -- what is said of what is read
 
 pub refuse_both : (e : NoForm) (P P' Q Q' : Type 0) → (P → P') → (Q → Q') → Refuses e P Q → Refuses e P' Q'
 refuse_both (Malformed place) P P' Q Q' f g h = f h
-refuse_both (Short place) P P' Q Q' f g h = f h
 refuse_both (Unsupported place why) P P' Q Q' f g h = g h
 
 pub unsupported_map : (total : ℕ) (e : NoForm) (P Q : Why → List ℕ → Type 0) → ((why : Why) (at : List ℕ) → P why at → Q why at) → UnsupportedAt total e P → UnsupportedAt total e Q
 unsupported_map total (Malformed place) P Q f h = tt
-unsupported_map total (Short place) P Q f h = tt
 unsupported_map total (Unsupported place why) P Q f (at, e, h) = (at, e, f why at h)
 
 pub failed : {T : Type 0} (r : Result T NoForm) (Q : NoForm → Type 0) (e : NoForm) → IsErrAnd r (λ x. x ≡ e) → Q e → IfErr r Q
@@ -42,17 +40,14 @@ failed r Q e h q = let p = err_from_is_err_and r h in subst (λ w. IfErr w Q) (s
 
 pub of_malformed : (e : NoForm) (P Q : Type 0) → (P → Q) → OnMalformed e P → OnMalformed e Q
 of_malformed (Malformed place) P Q f h = f h
-of_malformed (Short place) P Q f h = f h
 of_malformed (Unsupported place why) P Q f h = tt
 
 pub of_refuses : (e : NoForm) (A B Q : Type 0) → (A → Q) → Refuses e A B → OnMalformed e Q
 of_refuses (Malformed place) A B Q f h = f h
-of_refuses (Short place) A B Q f h = f h
 of_refuses (Unsupported place why) A B Q f h = tt
 
 pub of_both : (e : NoForm) (A B P Q : Type 0) → (A → P → Q) → Refuses e A B → OnMalformed e P → OnMalformed e Q
 of_both (Malformed place) A B P Q f g h = f g h
-of_both (Short place) A B P Q f g h = f g h
 of_both (Unsupported place why) A B P Q f g h = tt
 
 -- what is read without references to other entities is read so with them

@@ -216,7 +216,7 @@ module _ (front : List ℕ) where
     told (g.empty_tag some form fits means go) s = told_behind go (empty_told some s form means)
     told (end_tag form short go) s = told_behind go (ended_told s form)
     told {bs = bs} (entity a) s = (bs, entity_told s a, refl)
-    told {scope = outer} (deep {rest = r} none_left q n) s =
+    told {scope = outer} (deep {rest = r} none_left q) s =
         (0x3C ∷ r, element_refused s (subst (λ z. ElementRefuses (length front) outer z (0x3C ∷ r) too_deep (0x3C ∷ r)) (sym none_left) (depth q)), refl)
     told {ls} {scope = outer} {bs = bs} (construct {at = at} {why = why} some k n) s =
         (at, element_refused s (subst (λ z. ElementRefuses (length front) outer z bs (unsupported why) at) (one_less (depth_left ls) some) (tag k)), refl)
@@ -235,14 +235,14 @@ told_front front (prolog d (root n r go)) = told front go (before_root d n r)
 
 -- where another outcome comes of a text no measure passes before a place
 
-no_other : {o : Outcome} {front : List ℕ} {measure : Measure} {place : ℕ} → IsChars front → FromFront (length front) (after_mark front) o → (o ≡ passed measure place → ⊥)
+no_other : {o : Outcome} {front : List ℕ} {measure : Measure} {place : ℕ} → FromFront (length front) (after_mark front) o → (o ≡ passed measure place → ⊥)
     → ((other : Measure) (earlier : ℕ) → earlier < place → PassesAt front other earlier → ⊥) → PassesAt front measure place → ⊥
-no_other {front = front} {measure = measure} {place = place} chars go differs before passes = differs (front_one front go (comes_passed {measure = measure} {place = place} chars before passes))
+no_other {front = front} {measure = measure} {place = place} go differs before passes = differs (front_one front go (comes_passed {measure = measure} {place = place} before passes))
 
-pub none_before : {o : Outcome} {front : List ℕ} (n : ℕ) → IsChars front → FromFront (length front) (after_mark front) o
+pub none_before : {o : Outcome} {front : List ℕ} (n : ℕ) → FromFront (length front) (after_mark front) o
     → ((measure : Measure) (place : ℕ) → place < n → o ≡ passed measure place → ⊥) → (measure : Measure) (place : ℕ) → place < n → PassesAt front measure place → ⊥
-none_before zero chars go differs measure place low passes = omega (arith, low)
-none_before {o} {front} (suc n) chars go differs measure place low passes =
-    no_other chars go (differs measure place low)
-    (λ other earlier less. none_before n chars go (λ k p q. differs k p (omega (arith, q))) other earlier (omega (arith, less, low)))
+none_before zero go differs measure place low passes = omega (arith, low)
+none_before {o} {front} (suc n) go differs measure place low passes =
+    no_other go (differs measure place low)
+    (λ other earlier less. none_before n go (λ k p q. differs k p (omega (arith, q))) other earlier (omega (arith, less, low)))
     passes

@@ -19,6 +19,7 @@ use Rattle.tc_stream.specs.declared.phases.Phase.{Phase}
 use Rattle.tc_stream.specs.declared.phases.Phase.TheVariants as phases
 use Rattle.tc_stream.proofs.MeasureLaws.{tag_begins}
 use Rattle.tc_stream.proofs.TagLaws.{form_begins, end_tag_begins}
+use Rattle.tc_stream.proofs.LongLaws.{long_begins}
 use Rattle.tc_stream.proofs.OneOutcome.{refused_begins, begins_kind}
 use Rattle.tc_stream.proofs.NothingSteps.{nothing_step, last_step}
 
@@ -48,9 +49,9 @@ misc_there h (instruction {rest = r} a k) = absurd (h.no_instruction r (subst (�
 pub root_none : {total : ℕ} {outer : List Bound} {run bs : List ℕ} {o : Outcome} → (kind bs ≡ 3 → ⊥) → Goes total [] outer run bs o → ⊥
 root_none n (start_tag z f b m g) = n (tag_begins (form_begins f))
 root_none n (empty_tag z f b m g) = n (tag_begins (form_begins f))
-root_none n (deep z q s) = n (begins_kind q)
+root_none n (deep z q) = n (begins_kind q)
 root_none n (construct z t s) = n (tag_begins (refused_begins t))
-root_none n (long_tag l) = n (tag_begins l.begins)
+root_none n (long_tag l) = n (tag_begins (long_begins l))
 root_none n (many_names z f k s w) = n (tag_begins (form_begins f))
 
 content_none : {total : ℕ} {l : Level} {ls : List Level} {scope : List Bound} {run bs : List ℕ} {o : Outcome} → Hopeless bs → IsNoOther phases.Content bs → Goes total (l ∷ ls) scope run bs o → ⊥
@@ -63,9 +64,9 @@ content_none h n (g.instruction {rest = r} a k) = h.no_instruction r a
 content_none h n (start_tag z f b m k) = h.no_tag (tag_begins (form_begins f))
 content_none h n (empty_tag z f b m k) = h.no_tag (tag_begins (form_begins f))
 content_none h n (end_tag f s k) = h.no_tag (tag_begins (end_tag_begins f))
-content_none h n (deep z q s) = h.no_tag (begins_kind q)
+content_none h n (deep z q) = h.no_tag (begins_kind q)
 content_none h n (construct z t s) = h.no_tag (tag_begins (refused_begins t))
-content_none h n (long_tag l) = h.no_tag (tag_begins l.begins)
+content_none h n (long_tag l) = h.no_tag (tag_begins (long_begins l))
 content_none h n (many_names z f k s w) = h.no_tag (tag_begins (form_begins f))
 
 -- where no item begins
@@ -79,9 +80,9 @@ content_other e (g.instruction a k) = omega (arith, e, instruction_kind a)
 content_other e (start_tag z f b m k) = omega (arith, e, tag_begins (form_begins f))
 content_other e (empty_tag z f b m k) = omega (arith, e, tag_begins (form_begins f))
 content_other e (end_tag f s k) = omega (arith, e, tag_begins (end_tag_begins f))
-content_other e (deep z q s) = omega (arith, e, begins_kind q)
+content_other e (deep z q) = omega (arith, e, begins_kind q)
 content_other e (construct z t s) = omega (arith, e, tag_begins (refused_begins t))
-content_other e (long_tag l) = omega (arith, e, tag_begins l.begins)
+content_other e (long_tag l) = omega (arith, e, tag_begins (long_begins l))
 content_other e (many_names z f k s w) = omega (arith, e, tag_begins (form_begins f))
 
 doctype_there : {bs past after : List ℕ} → past ≡ bs → ((after : List ℕ) → DoctypeFrontAt bs after → ⊥) → DoctypeAt past after → after ≡ bs

@@ -97,7 +97,7 @@ comments : {h : ℕ} {pending : List ℕ} → (inside : List ℕ) × (pending �
 comments (inside, opens, scanned) = record { inside = inside; opens = opens; scanned = scanned }
 
 in_comment : {x : Grammar} {s : Reader} {chars : List ℕ} (h : ℕ) → s.part ≡ parts.Comment h → (r : ReadsTo x s chars) → Comments h r.pending
-in_comment {x} {s} {chars} h e r = comments (subst (λ p. Pends (length r.before) p s.tag.bytes.items r.pending) e r.pends)
+in_comment {x} {s} {chars} h e r = comments (subst (λ p. Pends (length r.before) p s r.pending) e r.pends)
 
 comment_place : {x : Grammar} {s : Reader} {chars : List ℕ} (h : ℕ) → s.part ≡ parts.Comment h → ReadsTo x s chars → (s.phase ≢ phases.Mark) × (s.phase ≢ phases.Front)
 comment_place {x} {s} {chars} h e r = subst (λ p. MayPend s.phase p) e r.may
@@ -159,7 +159,7 @@ instructions : {q : ℕ} {pending : List ℕ} → (name inside : List ℕ) × (p
 instructions (name, inside, opens, lawful, white, scanned) = record { name = name; inside = inside; opens = opens; lawful = lawful; white = white; scanned = scanned }
 
 in_instruction : {x : Grammar} {s : Reader} {chars : List ℕ} (q : ℕ) → s.part ≡ parts.Instruction q → (r : ReadsTo x s chars) → Instructions q r.pending
-in_instruction {x} {s} {chars} q e r = instructions (subst (λ p. Pends (length r.before) p s.tag.bytes.items r.pending) e r.pends)
+in_instruction {x} {s} {chars} q e r = instructions (subst (λ p. Pends (length r.before) p s r.pending) e r.pends)
 
 instruction_place : {x : Grammar} {s : Reader} {chars : List ℕ} (q : ℕ) → s.part ≡ parts.Instruction q → ReadsTo x s chars → (s.phase ≢ phases.Mark) × (s.phase ≢ phases.Front)
 instruction_place {x} {s} {chars} q e r = subst (λ p. MayPend s.phase p) e r.may
@@ -215,7 +215,7 @@ sections : {b : ℕ} {pending : List ℕ} → (inside : List ℕ) × (pending �
 sections (inside, opens, scanned) = record { inside = inside; opens = opens; scanned = scanned }
 
 in_section : {x : Grammar} {s : Reader} {chars : List ℕ} (b : ℕ) → s.part ≡ parts.Cdata b → (r : ReadsTo x s chars) → Sections b r.pending
-in_section {x} {s} {chars} b e r = sections (subst (λ p. Pends (length r.before) p s.tag.bytes.items r.pending) e r.pends)
+in_section {x} {s} {chars} b e r = sections (subst (λ p. Pends (length r.before) p s r.pending) e r.pends)
 
 section_place : {x : Grammar} {s : Reader} {chars : List ℕ} (b : ℕ) → s.part ≡ parts.Cdata b → ReadsTo x s chars → s.phase ≡ phases.Content
 section_place {x} {s} {chars} b e r = subst (λ p. MayPend s.phase p) e r.may

@@ -1,5 +1,5 @@
 -- What is kept of the elements that are open, as they are gone out of.
-use Rattle.std.proofs.Common.{◌≡◌, ℕ, zero, suc, ◌+◌, ◌-◌, ◌*◌, ◌≤◌, List, [], ◌∷◌, ◌++◌, refl, ap, ◌∙◌, sym, subst, length, take, drop, reverse, get_or, Some, None, slice_get, IsUtf8, arith, take-append-drop, length-take-le, Result, IfErr, IsErrAnd}
+use Rattle.std.proofs.Common.{◌≡◌, ℕ, zero, suc, ◌+◌, ◌-◌, ◌*◌, ◌<◌, ◌≤◌, List, [], ◌∷◌, ◌++◌, refl, ap, ◌∙◌, sym, subst, length, take, drop, reverse, get_or, Some, None, slice_get, IsUtf8, arith, take-append-drop, length-take-le, Result, IfErr, IsErrAnd}
 use Rattle.std.specs.List.{AllByRecursion}
 use Rattle.std.specs.Coded.{Coded-set, coded_list, coded_ℕ, ×_prop, Unit-prop, le_prop}
 use Rattle.std.proofs.Math.Logic.{∥∥₁_elim, ∥∥₁_map}
@@ -11,7 +11,7 @@ use Rattle.tc_model.specs.Names.{ExpandedName}
 use Rattle.tc_model.specs.Trees.{Trees}
 use Rattle.tc_model.specs.XmlText.{deepest_element}
 use Rattle.tc_model.specs.XmlTextScopes.{first_scope}
-use Rattle.tc_stream.specs.Goes.{Level, used, with_text, with_element}
+use Rattle.tc_stream.specs.Goes.{Level, depth_left, used, with_text, with_element}
 use Rattle.tc_stream.specs.Keeps.{Holds, IsLevel, AreLevels, AreOpen, IsText, IsKept, IsOfSome, IsReady, Keeps}
 use Rattle.tc_stream.specs.Scoped.{chain_in, chains_in}
 use Rattle.tc_stream.specs.Spans.{at_span}
@@ -86,6 +86,13 @@ open_deep {names} {declared} {chains} {cs} {ls} {scope} k = sym (length-reverse 
 
 pub as_deep : {names : List ℕ} {declared : List Declared} {chains : List ℕ} {cs : List code.Level} {ls : List Level} {scope : List Bound} → IsKept names declared chains cs ls scope → length cs ≡ length ls
 as_deep k = open_deep k.are_open
+
+-- how many elements may still stand within them
+pub is_full : (e : Elements) {ls : List Level} {scope : List Bound} → Keeps e ls scope → length e.levels.items ≡ 2000 → depth_left ls ≡ 0
+is_full e {ls} k h = let none : 2000 - length ls ≡ 0 = omega (arith, h, as_deep k) in none
+
+pub has_room : (e : Elements) {ls : List Level} {scope : List Bound} → Keeps e ls scope → length e.levels.items < 2000 → 0 < depth_left ls
+has_room e {ls} k h = let some : 0 < 2000 - length ls = omega (arith, h, as_deep k) in some
 
 pub is_deep : {names : List ℕ} {declared : List Declared} {chains : List ℕ} {cs : List code.Level} {ls : List Level} {scope : List Bound} → IsKept names declared chains cs ls scope → length ls ≤ 2000
 is_deep k = k.are_open.deep

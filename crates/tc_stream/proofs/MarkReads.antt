@@ -117,7 +117,7 @@ whole_may marks.Cdata phase f m h = h
 whole_may marks.Doctype phase f m (inl h) = absurd (f h)
 whole_may marks.Doctype phase f m (inr h) = h
 
-whole_pends : (mark : Mark) (n : ℕ) (kept w : List ℕ) → w ≡ mark_of mark → Pends n (begun_by mark) kept w
+whole_pends : (mark : Mark) (n : ℕ) (kept : Reader) (w : List ℕ) → w ≡ mark_of mark → Pends n (begun_by mark) kept w
 whole_pends marks.Comment n kept w e = ([], e, refl)
 whole_pends marks.Cdata n kept w e = ([], e, refl)
 whole_pends marks.Doctype n kept w e = ([], e, refl)
@@ -134,7 +134,7 @@ mark_reads {x} {old} {new} {chars} {mark} {count} {more} part c stays at is goes
     by (some, low, e) (m, f, stands) (inr long) =
         let item : r.pending ++ encode_utf8 c ≡ mark_of mark = mark_more mark count more c low e one same ∙ take_all more (mark_of mark) long in
         grows c r char stays at (is ∙ all long) (some_pending mark count r.pending some low e) (sym (whole_text mark (r.pending ++ encode_utf8 c) item)) (whole_may mark old.phase f m stands)
-        (whole_pends mark (length r.before) new.tag.bytes.items (r.pending ++ encode_utf8 c) item)
+        (whole_pends mark (length r.before) new (r.pending ++ encode_utf8 c) item)
 
 -- which can't go on
 

@@ -3,17 +3,16 @@ use Rattle.std.proofs.Common.{◌≡◌, ◌≢◌, ℕ, ◌<◌, ◌≤◌, ◌
 use Rattle.std.specs.Prelude.{encode_utf8}
 use Rattle.std.specs.List.{list_all}
 use Rattle.std.proofs.lemmas.Bool.{true≢false, and_from}
-use Rattle.std.proofs.lemmas.Str.{length-encode, len_utf8_bounds}
+use Rattle.std.proofs.lemmas.Str.{encode_same, length-encode, len_utf8_bounds}
 use Rattle.tc_base.specs.Characters.{is_char}
 use Rattle.tc_base.specs.declared.Place.{Place}
 use Rattle.tc_model.specs.Grammars.{Grammar}
 use Rattle.tc_model.specs.Names.{IsChars, is_ncname_start}
 use Rattle.tc_model.specs.XmlTextBytes.{Lacks}
-use Rattle.tc_model.specs.XmlTextNames.{QualifiedName, QNameAt}
 use Rattle.tc_model.specs.XmlTextScopes.{first_scope}
 use Rattle.tc_model.proofs.XmlTextChars.{one_char}
 use Rattle.tc_model.proofs.XmlTextPhrases.{start_is_char}
-use Rattle.tc_stream.specs.XmlTextMeasures.{longest_tag, BeginsTag}
+use Rattle.tc_stream.specs.Begins.{BeginsTag}
 use Rattle.tc_stream.specs.Outcomes.{Outcome}
 use Rattle.tc_stream.specs.From.{Standing, StillComes}
 use Rattle.tc_stream.specs.Scans.{quoted, tag_scan}
@@ -27,13 +26,13 @@ use Rattle.tc_stream.specs.declared.phases.Phase.TheVariants as phases
 use Rattle.tc_stream.specs.declared.reader.Reader.{Reader}
 use Rattle.tc_stream.proofs.BrokenSteps.{tag_behind}
 use Rattle.tc_stream.proofs.HopelessSteps.{StandsIn, in_front, in_prolog, in_root, in_content, past_root}
-use Rattle.tc_stream.proofs.LongSteps.{nameless_step}
+use Rattle.tc_stream.proofs.LongSteps.{IsNameless, nameless_step}
 use Rattle.tc_stream.proofs.RootOpens.{root_opens}
 use Rattle.tc_stream.proofs.TagBroken.{root_end_tag}
 use Rattle.tc_stream.proofs.TagEndLaws.{is_calm, calm_all_past, name_char_calm}
 use Rattle.tc_stream.proofs.EncodedLaws.{first_byte}
 use Rattle.tc_stream.proofs.ReadingLaws.{pending_with, stands_in}
-use Rattle.tc_stream.proofs.PendingLaws.{Stays, pends_of, may_of, nonempty, one_byte, is_byte, qname_starts, more_room, grows, breaks}
+use Rattle.tc_stream.proofs.PendingLaws.{Stays, pends_of, may_of, nonempty, one_byte, is_byte, more_room, grows, breaks}
 
 -- what is kept of a tag: its `<` and its first character
 pub first_kept : (c m n k : ℕ) (kept one new : List ℕ) (pushed added : Bool) → 5 ≤ m → n ≡ m → kept ≡ [] → k ≡ n → MatchBool pushed (one ≡ kept ++ 0x3C ∷ []) ((one ≡ kept) × (n < length kept + 1))
@@ -75,16 +74,16 @@ end_tag_begins {new = new} c stays at is content tag same char r =
 
 -- a start tag or an empty-element tag, before the root element or in it
 
-pub start_tag_begins : {x : Grammar} {old new : Reader} {chars : List ℕ} (c : ℕ) → Stays old new → old.part ≡ parts.Markup → new.part ≡ parts.Tag None → old.phase ≢ phases.End → is_ncname_start c ≡ true
+pub start_tag_begins : {x : Grammar} {old new : Reader} {chars : List ℕ} (c : ℕ) → Stays old new → old.part ≡ parts.Markup → new.part ≡ parts.Tag None → old.phase ≢ phases.End → length old.elements.levels.items < 2000 → is_ncname_start c ≡ true
     → new.tag.bytes.items ≡ 0x3C ∷ encode_utf8 c → IsTrue (is_char c) → ReadsTo x old chars → ReadsTo x new (chars ++ encode_utf8 c)
-start_tag_begins {new = new} c stays at is inside starts tag char r =
+start_tag_begins {new = new} c stays at is inside room starts tag char r =
     let mark : r.pending ≡ 0x3C ∷ [] = pends_of r at in
     let item : r.pending ++ encode_utf8 c ≡ 0x3C ∷ encode_utf8 c = ap (λ w. w ++ encode_utf8 c) mark in
     let kept : new.tag.bytes.items ≡ 0x3C ∷ (encode_utf8 c ++ []) = tag ∙ ap (λ w. 0x3C ∷ w) (sym (append-nil (encode_utf8 c))) in
     let calm : list_all is_calm (0x3C ∷ encode_utf8 c) ≡ true = and_from (is_calm 0x3C) (list_all is_calm (encode_utf8 c)) refl (name_char_calm c (start_is_char c starts)) in
     let scanned : tag_scan None new.tag.bytes.items ≡ quoted None = ap (tag_scan None) kept ∙ calm_all_past None (0x3C ∷ encode_utf8 c) [] tt calm in
     let short : length new.tag.bytes.items ≤ 65536 = omega (arith, ap length tag, length-encode c, len_utf8_bounds c) in
-    grows c r char stays at is (nonempty mark) refl (may_of r at, inside) (item ∙ sym tag, (c, [], kept, starts), scanned, short)
+    grows c r char stays at is (nonempty mark) refl (may_of r at, inside) (item ∙ sym tag, (c, [], kept, starts), scanned, short, subst (λ e. length e.levels.items < 2000) (sym stays.elements) room)
 
 -- neither begins here
 
@@ -95,29 +94,29 @@ tag_of b rest m q = record { next = b; rest = rest; opens = refl; no_mark = m; n
 slash_nothing : (n : ℕ) (r : List ℕ) {phase : Phase} {s : Standing} (o : Outcome) → StandsIn phase s → phase ≢ phases.Content → IsChars (0x3C ∷ 0x2F ∷ []) → StillComes n phase s ((0x3C ∷ 0x2F ∷ []) ++ r) o → ⊥
 unfolding tag_of
 slash_nothing n r o in_front p chars g =
-    root_end_tag n (0x3C ∷ 0x2F ∷ []) r first_scope [] o (tag_of 0x2F [] (λ e. omega (arith, e)) (λ e. omega (arith, e))) refl chars (omega arith)
+    root_end_tag n (0x3C ∷ 0x2F ∷ []) r first_scope [] o (tag_of 0x2F [] (λ e. omega (arith, e)) (λ e. omega (arith, e))) refl chars
     ((root_opens n 0x2F [] r phases.Front o chars (λ e. omega (arith, e)) (λ e. omega (arith, e)) (λ h. cc) (λ h. cc)).0 g)
 slash_nothing n r o in_prolog p chars g =
-    root_end_tag n (0x3C ∷ 0x2F ∷ []) r first_scope [] o (tag_of 0x2F [] (λ e. omega (arith, e)) (λ e. omega (arith, e))) refl chars (omega arith)
+    root_end_tag n (0x3C ∷ 0x2F ∷ []) r first_scope [] o (tag_of 0x2F [] (λ e. omega (arith, e)) (λ e. omega (arith, e))) refl chars
     ((root_opens n 0x2F [] r phases.Prolog o chars (λ e. omega (arith, e)) (λ e. omega (arith, e)) (λ h. cc) (λ h. cc)).0 g)
 slash_nothing n r o in_root p chars g =
-    root_end_tag n (0x3C ∷ 0x2F ∷ []) r first_scope [] o (tag_of 0x2F [] (λ e. omega (arith, e)) (λ e. omega (arith, e))) refl chars (omega arith)
+    root_end_tag n (0x3C ∷ 0x2F ∷ []) r first_scope [] o (tag_of 0x2F [] (λ e. omega (arith, e)) (λ e. omega (arith, e))) refl chars
     ((root_opens n 0x2F [] r phases.Root o chars (λ e. omega (arith, e)) (λ e. omega (arith, e)) (λ h. cc) (λ h. cc)).0 g)
 slash_nothing n r o in_content p chars g = p refl
 slash_nothing n r o (past_root {n = name} {kids = kids}) p chars g = tag_behind n 0x2F [] r name kids o chars (λ e. omega (arith, e)) (λ e. omega (arith, e)) g
 
 -- a tag without a name, or one behind the root element
-nameless_nothing : (n b : ℕ) (rest r : List ℕ) {phase : Phase} {s : Standing} (o : Outcome) → StandsIn phase s → b ≢ 0x21 → b ≢ 0x3F → b ≢ 0x2F → IsChars (0x3C ∷ b ∷ rest) → length (0x3C ∷ b ∷ rest) ≤ longest_tag
-    → ((f past : List ℕ) (name : QualifiedName) → QNameAt ((b ∷ rest) ++ f) name past → ⊥) → StillComes n phase s ((0x3C ∷ b ∷ rest) ++ r) o → ⊥
+nameless_nothing : (n b : ℕ) (rest r : List ℕ) {phase : Phase} {s : Standing} (o : Outcome) → StandsIn phase s → b ≢ 0x21 → b ≢ 0x3F → b ≢ 0x2F → IsChars (0x3C ∷ b ∷ rest)
+    → IsNameless (b ∷ rest) → StillComes n phase s ((0x3C ∷ b ∷ rest) ++ r) o → ⊥
 unfolding tag_of
-nameless_nothing n b rest r o in_front m q d chars low none g =
-    nameless_step n (b ∷ rest) r [] first_scope [] o (tag_of b rest m q) d chars low none ((root_opens n b rest r phases.Front o chars m q (λ h. cc) (λ h. cc)).0 g)
-nameless_nothing n b rest r o in_prolog m q d chars low none g =
-    nameless_step n (b ∷ rest) r [] first_scope [] o (tag_of b rest m q) d chars low none ((root_opens n b rest r phases.Prolog o chars m q (λ h. cc) (λ h. cc)).0 g)
-nameless_nothing n b rest r o in_root m q d chars low none g =
-    nameless_step n (b ∷ rest) r [] first_scope [] o (tag_of b rest m q) d chars low none ((root_opens n b rest r phases.Root o chars m q (λ h. cc) (λ h. cc)).0 g)
-nameless_nothing n b rest r o (in_content {l = l} {ls = ls} {scope = scope} {run = run}) m q d chars low none g = nameless_step n (b ∷ rest) r (l ∷ ls) scope run o (tag_of b rest m q) d chars low none g
-nameless_nothing n b rest r o (past_root {n = name} {kids = kids}) m q d chars low none g = tag_behind n b rest r name kids o chars m q g
+nameless_nothing n b rest r o in_front m q d chars none g =
+    nameless_step n (b ∷ rest) r [] first_scope [] o (tag_of b rest m q) d chars none ((root_opens n b rest r phases.Front o chars m q (λ h. cc) (λ h. cc)).0 g)
+nameless_nothing n b rest r o in_prolog m q d chars none g =
+    nameless_step n (b ∷ rest) r [] first_scope [] o (tag_of b rest m q) d chars none ((root_opens n b rest r phases.Prolog o chars m q (λ h. cc) (λ h. cc)).0 g)
+nameless_nothing n b rest r o in_root m q d chars none g =
+    nameless_step n (b ∷ rest) r [] first_scope [] o (tag_of b rest m q) d chars none ((root_opens n b rest r phases.Root o chars m q (λ h. cc) (λ h. cc)).0 g)
+nameless_nothing n b rest r o (in_content {l = l} {ls = ls} {scope = scope} {run = run}) m q d chars none g = nameless_step n (b ∷ rest) r (l ∷ ls) scope run o (tag_of b rest m q) d chars none g
+nameless_nothing n b rest r o (past_root {n = name} {kids = kids}) m q d chars none g = tag_behind n b rest r name kids o chars m q g
 
 -- the first byte of a character that isn't one of ASCII
 other_byte : (c b : ℕ) (rest : List ℕ) (a : ℕ) → a < 128 → encode_utf8 c ≡ b ∷ rest → (c ≡ a → ⊥) → b ≢ a
@@ -138,23 +137,22 @@ end_tag_breaks {s = s} {place = place} c at outside is low same char r =
 
 -- by its first byte
 tag_breaks_at : {x : Grammar} {s : Reader} {chars : List ℕ} {e : StreamFault} {place : Place} {b : ℕ} {rest : List ℕ} (c : ℕ) → s.part ≡ parts.Markup → e ≡ faults.Malformed place → place.0 ≤ s.begun + 1
-    → encode_utf8 c ≡ b ∷ rest → (c ≡ 0x21 → ⊥) → (c ≡ 0x3F → ⊥) → (c ≡ 0x2F → ⊥) → ((f past : List ℕ) (name : QualifiedName) → QNameAt ((b ∷ rest) ++ f) name past → ⊥) → IsTrue (is_char c) → (r : ReadsTo x s chars)
+    → encode_utf8 c ≡ b ∷ rest → (c ≡ 0x21 → ⊥) → (c ≡ 0x3F → ⊥) → (c ≡ 0x2F → ⊥) → IsNameless (b ∷ rest) → IsTrue (is_char c) → (r : ReadsTo x s chars)
     → IsFaultOfFront (chars ++ encode_utf8 c) e
 tag_breaks_at {s = s} {place = place} {b = b} {rest = rest} c at is low first m q d none char r =
     let mark : r.pending ≡ 0x3C ∷ [] = pends_of r at in
     let item : r.pending ++ encode_utf8 c ≡ 0x3C ∷ b ∷ rest = markup_item c r mark (b ∷ rest) first in
     let chars_are : IsChars (0x3C ∷ b ∷ rest) = subst IsChars item (pending_with (encode_utf8 c) r (one_char c char)) in
-    let short : length (0x3C ∷ b ∷ rest) ≤ longest_tag = omega (arith, ap length first, length-encode c, len_utf8_bounds c) in
     breaks c r is (more_room c place.0 r (nonempty mark) low)
     (λ f o g. nameless_nothing (length r.before) b rest f o (stands_in (may_of r at) r.tells) (other_byte c b rest 0x21 (omega arith) first m) (other_byte c b rest 0x3F (omega arith) first q) (other_byte c b rest 0x2F (omega arith) first d)
-    chars_are short none (subst (λ w. StillComes (length r.before) s.phase r.standing (w ++ f) o) item g))
+    chars_are none (subst (λ w. StillComes (length r.before) s.phase r.standing (w ++ f) o) item g))
 
 -- no name begins with it
 pub tag_breaks : {x : Grammar} {s : Reader} {chars : List ℕ} {e : StreamFault} {place : Place} (c : ℕ) → s.part ≡ parts.Markup → is_ncname_start c ≡ false → e ≡ faults.Malformed place → place.0 ≤ s.begun + 1
     → (c ≡ 0x21 → ⊥) → (c ≡ 0x3F → ⊥) → (c ≡ 0x2F → ⊥) → IsTrue (is_char c) → ReadsTo x s chars → IsFaultOfFront (chars ++ encode_utf8 c) e
 tag_breaks c at bare is low m q d char r =
     let b = first_byte c in
-    tag_breaks_at c at is low b.is m q d (λ f past name a. true≢false (sym (qname_starts c f (sym (ap (λ w. w ++ f) b.is)) a) ∙ bare)) char r
+    tag_breaks_at c at is low b.is m q d (λ f rest d same starts. true≢false (sym starts ∙ (ap is_ncname_start (sym (encode_same c d f rest (ap (λ w. w ++ f) b.is ∙ same)).0) ∙ bare))) char r
 
 -- no tag may stand here
 behind_nothing : (n b : ℕ) (rest r : List ℕ) {phase : Phase} {s : Standing} (o : Outcome) → StandsIn phase s → phase ≡ phases.End → b ≢ 0x21 → b ≢ 0x3F → IsChars (0x3C ∷ b ∷ rest) → StillComes n phase s ((0x3C ∷ b ∷ rest) ++ r) o → ⊥

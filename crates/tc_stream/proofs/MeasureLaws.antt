@@ -10,11 +10,13 @@ use Rattle.tc_model.specs.XmlTextMisc.{MiscAt, DoctypeAt}
 use Rattle.tc_model.specs.XmlTextScopes.{TagMeans, first_scope}
 use Rattle.tc_model.specs.XmlTextContent.{Piece, TagAt, ContentAt, at_end_tag, item, ItemAt, character_data, reference, cdata, comment, instruction, child, ElementAt, empty_tag, with_content}
 use Rattle.tc_stream.specs.XmlTextTags as t
-use Rattle.tc_stream.specs.XmlTextTags.{WrittenElement, TagFormAt, EndTagAt, WholeTagAt, ComesTo, to_root, into_element, past_item, tag_length, open_names}
-use Rattle.tc_stream.specs.XmlTextMeasures.{BeginsTag, PassesAt, long_tag, many_names, Measure, GoodTextsPassNothing}
+use Rattle.tc_stream.specs.XmlTextTags.{WrittenElement, TagFormAt, WholeTagAt, ComesTo, to_root, into_element, past_item}
+use Rattle.tc_stream.specs.Begins.{BeginsTag}
+use Rattle.tc_stream.specs.XmlTextMeasures.{PassesAt, long_tag, many_names, Measure, GoodTextsPassNothing}
 use Rattle.tc_model.proofs.XmlTextPhrases.{same_first, same_others, no_qname, declaration_unique, misc_unique, doctype_unique}
 use Rattle.tc_model.proofs.XmlTextUnique.{tag_unique, item_unique, no_item_at_end_tag, kind, markup, bang, character_data_kind, reference_kind, cdata_kind, comment_kind, instruction_kind, tag_kind}
 use Rattle.tc_model.proofs.XmlTextRefused.{front_unique, whole_front}
+use Rattle.tc_stream.proofs.LongLaws.{long_begins, long_not_short}
 
 -- a tag by its form and its meaning is a tag
 pub tag_of : {o : Bool} {total : ℕ} {outer scope : List Bound} {bs after : List ℕ} {e : WrittenElement} {n : ExpandedName} {expanded : List Attribute}
@@ -135,6 +137,6 @@ good_texts_pass_nothing bytes h good front measure place is passes = by (subst (
   where
     by : {m : Measure} {p : ℕ} → PassesAt bytes m p → ⊥
     by (long_tag {elements = es} {outer} {deepest} {at} c long) =
-        let (r, w) = whole_ahead (length bytes) deepest outer at es long.begins (ahead good.reads c) in
-        omega (arith, good.tags es outer deepest at r c w, long.unended r w)
+        let (r, w) = whole_ahead (length bytes) deepest outer at es (long_begins long) (ahead good.reads c) in
+        long_not_short long w (good.tags es outer deepest at r c w)
     by (many_names {element = e} {elements = es} {outer} {deepest} {at} {end} c f ends few) = omega (arith, few, good.names e es outer (suc deepest) at end c f)

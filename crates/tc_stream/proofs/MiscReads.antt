@@ -287,7 +287,7 @@ misc_begun {old} {new} {text} {rest} end place is e c ready part phase elements 
       let at : new.begun ≡ length r.before = omega (arith, begun, fit, fits, front) in
       let there : Tells x (0x3C ∷ []) parts.Markup old.elements (past_mark old.phase) r.standing = tells_in past_mark refl mark_opens c (tells_with r parts.Between parts.Markup (0x3C ∷ []) e refl) in
       goes_on (0x3C ∷ []) r.before (0x3C ∷ []) r.standing r (ap (λ w. r.before ++ (w ++ 0x3C ∷ [])) none) r.before_chars (ascii_chars 0x3C (omega arith) refl) (λ _. at)
-      (subst (λ p. Pends (length r.before) p new.tag.bytes.items (0x3C ∷ [])) (sym part) refl) (subst (λ p. MayPend new.phase p) (sym part) (λ m. past_mark_not old.phase (sym phase ∙ m)))
+      (subst (λ p. Pends (length r.before) p new (0x3C ∷ [])) (sym part) refl) (subst (λ p. MayPend new.phase p) (sym part) (λ m. past_mark_not old.phase (sym phase ∙ m)))
       (subst (λ p. Tells x (0x3C ∷ []) p new.elements new.phase r.standing) (sym part) (tells_moved elements phase there))
       (λ f o. (
         λ g. still_moved r.standing o refl (sym phase) refl ((open_over r.standing old.phase (length r.before) f o).0 (still_moved r.standing o refl refl (ap (λ w. (w ++ 0x3C ∷ []) ++ f) none) g)),

@@ -1,5 +1,7 @@
 -- A name and the bytes with which it is written.
-use Rattle.std.proofs.Common.{◌≡◌, ℕ, ◌-◌, cond, List, [], ◌∷◌, ◌++◌, refl, ap, ◌∙◌, sym, subst, length, take, arith, codes, append_assoc, append-nil, length-append}
+use Rattle.std.proofs.Common.{◌≡◌, ℕ, ◌-◌, Bool, true, false, cond, List, [], ◌∷◌, ◌++◌, refl, ap, ◌∙◌, sym, subst, length, take, arith, codes, append_assoc, append-nil, length-append, MatchBool, bytes_eq}
+use Rattle.std.specs.Cmp.Lexicographic.{bytes_decides}
+use Rattle.std.proofs.lemmas.Bool.{true≢false}
 use Rattle.std.specs.Prelude.{encode_utf8}
 use Rattle.std.proofs.lemmas.List.{append_cancel_right, append_cancel_left, take_at}
 use Rattle.std.proofs.lemmas.Str.{length-encode, len_utf8_bounds}
@@ -71,6 +73,14 @@ module _ (tag start behind found : List ℕ) (q : QualifiedName) (opens : tag �
       let is = qname_unique (subst (λ z. QNameAt z written t.past_name) there t.names) names in
       let same : found ≡ from = bytes_same found (subst (λ z. QNameAt start z behind) (sym is.0) names) parts w in
       h (same ∙ e) (ap after_white (sym is.1) ∙ t.closes)
+
+  pub which_end : (x : Bool) (name : List ℕ) → x ≡ bytes_eq (after_white behind) (codes ">") → found ≡ name → (written : QualifiedName) → QNameAt name written [] → MatchBool x (EndTagAt written tag []) (EndTagAt written tag [] → ⊥)
+  which_end true name e same written w = an_end name same ((bytes_decides (after_white behind) (codes ">")).0 (sym e)) written name w refl
+  which_end false name e same written w = no_end name (λ s k. true≢false (sym ((bytes_decides (after_white behind) (codes ">")).1 k) ∙ sym e)) written name w refl
+
+  pub other_end : (x : Bool) (name : List ℕ) → x ≡ false → (found ≡ name → ⊥) → (written : QualifiedName) → QNameAt name written [] → MatchBool x (EndTagAt written tag []) (EndTagAt written tag [] → ⊥)
+  other_end true name e differs written w = absurd (true≢false e)
+  other_end false name e differs written w = no_end name (λ s k. differs s) written name w refl
 
 pub no_end_mark : (tag : List ℕ) → ((r : List ℕ) → tag ≡ codes "</" ++ r → ⊥) → (written : QualifiedName) → EndTagAt written tag [] → ⊥
 no_end_mark tag h written t = h t.rest t.opens

@@ -19,12 +19,14 @@ use Rattle.tc_model.proofs.XmlTextUnique.{tag_unique, kind, character_data_kind,
 use Rattle.tc_model.proofs.XmlTextRefused.{as_reference, other_no_reference, value_one, quoted_no_quoted, not_space, document_one, declaration_no_declaration, subset_no_doctype}
 use Rattle.tc_stream.specs.XmlTextTags.{WrittenElement, TagFormAt, EndTagAt, WholeTagAt, names_length, tag_length}
 use Rattle.tc_stream.specs.XmlTextTags as t
-use Rattle.tc_stream.specs.XmlTextMeasures.{longest_tag, most_names, tag, names, BeginsTag}
+use Rattle.tc_stream.specs.Begins.{BeginsTag}
+use Rattle.tc_stream.specs.XmlTextMeasures.{longest_tag, most_names, tag, names}
 use Rattle.tc_stream.specs.Outcomes.{Outcome, refused, passed}
 use Rattle.tc_stream.specs.Goes.{Level, used, depth_left, with_text, Closed, closed, Fits, IsLong, Goes, characters, reference, cdata, comment, instruction, start_tag, empty_tag, end_tag, entity, deep, construct, long_tag, many_names, GoesBehind, content, end}
 use Rattle.tc_stream.specs.From.{FromRoot, FromProlog, subset, root, FromFront, declaration, prolog}
 use Rattle.tc_stream.proofs.MeasureLaws.{tag_of, tag_begins}
-use Rattle.tc_stream.proofs.TagLaws.{EndsAt, ends_at, ends_one, whole_of_form, form_unique, end_tag_unique, no_form_at_end_tag, refused_no_form, begins_by, form_begins, end_tag_begins, long_not_short}
+use Rattle.tc_stream.proofs.TagLaws.{EndsAt, ends_at, ends_one, whole_of_form, form_unique, end_tag_unique, no_form_at_end_tag, refused_no_form, begins_by, form_begins, end_tag_begins}
+use Rattle.tc_stream.proofs.LongLaws.{long_begins, long_deep, long_not_short, tag_starts}
 
 -- an element whose tag is just read
 abbrev pub opened : WrittenElement → ExpandedName → List Bound → Level
@@ -92,9 +94,9 @@ at_text e (instruction a g) = absurd (omega (arith, e, instruction_kind a))
 at_text e (start_tag z f b m g) = absurd (omega (arith, e, tag_begins (form_begins f)))
 at_text e (empty_tag z f b m g) = absurd (omega (arith, e, tag_begins (form_begins f)))
 at_text e (end_tag f s g) = absurd (omega (arith, e, tag_begins (end_tag_begins f)))
-at_text e (deep {rest = r} {past_name = p} {name = n} z q s) = absurd (omega (arith, e, named_kind r q))
+at_text e (deep {rest = r} {past_name = p} {name = n} z q) = absurd (omega (arith, e, named_kind r q))
 at_text e (construct z t n) = absurd (omega (arith, e, tag_begins (refused_begins t)))
-at_text e (long_tag l) = absurd (omega (arith, e, tag_begins l.begins))
+at_text e (long_tag l) = absurd (omega (arith, e, tag_begins (long_begins l)))
 at_text e (many_names z f k s w) = absurd (omega (arith, e, tag_begins (form_begins f)))
 
 pub data AtReference (total : ℕ) (l : Level) (ls : List Level) (scope : List Bound) (run bs : List ℕ) (o : Outcome) : Type 0 where
@@ -111,9 +113,9 @@ at_reference e (instruction a g) = absurd (omega (arith, e, instruction_kind a))
 at_reference e (start_tag z f b m g) = absurd (omega (arith, e, tag_begins (form_begins f)))
 at_reference e (empty_tag z f b m g) = absurd (omega (arith, e, tag_begins (form_begins f)))
 at_reference e (end_tag f s g) = absurd (omega (arith, e, tag_begins (end_tag_begins f)))
-at_reference e (deep {rest = r} {past_name = p} {name = n} z q s) = absurd (omega (arith, e, named_kind r q))
+at_reference e (deep {rest = r} {past_name = p} {name = n} z q) = absurd (omega (arith, e, named_kind r q))
 at_reference e (construct z t n) = absurd (omega (arith, e, tag_begins (refused_begins t)))
-at_reference e (long_tag l) = absurd (omega (arith, e, tag_begins l.begins))
+at_reference e (long_tag l) = absurd (omega (arith, e, tag_begins (long_begins l)))
 at_reference e (many_names z f k s w) = absurd (omega (arith, e, tag_begins (form_begins f)))
 
 pub data AtCdata (total : ℕ) (l : Level) (ls : List Level) (scope : List Bound) (run bs : List ℕ) (o : Outcome) : Type 0 where
@@ -129,9 +131,9 @@ at_cdata e (instruction a g) = absurd (omega (arith, e, instruction_kind a))
 at_cdata e (start_tag z f b m g) = absurd (omega (arith, e, tag_begins (form_begins f)))
 at_cdata e (empty_tag z f b m g) = absurd (omega (arith, e, tag_begins (form_begins f)))
 at_cdata e (end_tag f s g) = absurd (omega (arith, e, tag_begins (end_tag_begins f)))
-at_cdata e (deep {rest = r} {past_name = p} {name = n} z q s) = absurd (omega (arith, e, named_kind r q))
+at_cdata e (deep {rest = r} {past_name = p} {name = n} z q) = absurd (omega (arith, e, named_kind r q))
 at_cdata e (construct z t n) = absurd (omega (arith, e, tag_begins (refused_begins t)))
-at_cdata e (long_tag l) = absurd (omega (arith, e, tag_begins l.begins))
+at_cdata e (long_tag l) = absurd (omega (arith, e, tag_begins (long_begins l)))
 at_cdata e (many_names z f k s w) = absurd (omega (arith, e, tag_begins (form_begins f)))
 
 pub data AtComment (total : ℕ) (l : Level) (ls : List Level) (scope : List Bound) (run bs : List ℕ) (o : Outcome) : Type 0 where
@@ -147,9 +149,9 @@ at_comment e (instruction a g) = absurd (omega (arith, e, instruction_kind a))
 at_comment e (start_tag z f b m g) = absurd (omega (arith, e, tag_begins (form_begins f)))
 at_comment e (empty_tag z f b m g) = absurd (omega (arith, e, tag_begins (form_begins f)))
 at_comment e (end_tag f s g) = absurd (omega (arith, e, tag_begins (end_tag_begins f)))
-at_comment e (deep {rest = r} {past_name = p} {name = n} z q s) = absurd (omega (arith, e, named_kind r q))
+at_comment e (deep {rest = r} {past_name = p} {name = n} z q) = absurd (omega (arith, e, named_kind r q))
 at_comment e (construct z t n) = absurd (omega (arith, e, tag_begins (refused_begins t)))
-at_comment e (long_tag l) = absurd (omega (arith, e, tag_begins l.begins))
+at_comment e (long_tag l) = absurd (omega (arith, e, tag_begins (long_begins l)))
 at_comment e (many_names z f k s w) = absurd (omega (arith, e, tag_begins (form_begins f)))
 
 pub data AtInstruction (total : ℕ) (l : Level) (ls : List Level) (scope : List Bound) (run bs : List ℕ) (o : Outcome) : Type 0 where
@@ -165,9 +167,9 @@ at_instruction e (instruction a g) = instructs a g
 at_instruction e (start_tag z f b m g) = absurd (omega (arith, e, tag_begins (form_begins f)))
 at_instruction e (empty_tag z f b m g) = absurd (omega (arith, e, tag_begins (form_begins f)))
 at_instruction e (end_tag f s g) = absurd (omega (arith, e, tag_begins (end_tag_begins f)))
-at_instruction e (deep {rest = r} {past_name = p} {name = n} z q s) = absurd (omega (arith, e, named_kind r q))
+at_instruction e (deep {rest = r} {past_name = p} {name = n} z q) = absurd (omega (arith, e, named_kind r q))
 at_instruction e (construct z t n) = absurd (omega (arith, e, tag_begins (refused_begins t)))
-at_instruction e (long_tag l) = absurd (omega (arith, e, tag_begins l.begins))
+at_instruction e (long_tag l) = absurd (omega (arith, e, tag_begins (long_begins l)))
 at_instruction e (many_names z f k s w) = absurd (omega (arith, e, tag_begins (form_begins f)))
 
 -- a tag's step
@@ -177,10 +179,10 @@ pub data AtTag (total : ℕ) (ls : List Level) (outer : List Bound) (run bs : Li
   stands_alone : {scope : List Bound} {after : List ℕ} {e : WrittenElement} {n : ExpandedName} {x : List Attribute} → 0 < depth_left ls → TagFormAt false total bs e (codes "/>" ++ after)
       → Fits ls e bs after → TagMeans outer e.name e.attributes scope n x → GoesBehind total (closed n none (with_text run ls)) outer after o → AtTag total ls outer run bs o
   ends : Closing total ls run bs o → AtTag total ls outer run bs o
-  is_deep : {rest past_name : List ℕ} {name : QualifiedName} → depth_left ls ≡ 0 → bs ≡ 0x3C ∷ rest → QNameAt rest name past_name → (IsLong total ls outer bs → ⊥)
+  is_deep : {rest past_name : List ℕ} {name : QualifiedName} → depth_left ls ≡ 0 → bs ≡ 0x3C ∷ rest → QNameAt rest name past_name
       → o ≡ refused too_deep (place_of total bs) → AtTag total ls outer run bs o
-  is_refused : {at : List ℕ} {why : Why} → 0 < depth_left ls → TagRefuses bs why at → (IsLong total ls outer bs → ⊥) → o ≡ refused (unsupported why) (place_of total at) → AtTag total ls outer run bs o
-  is_long : IsLong total ls outer bs → o ≡ passed tag (place_of total bs + longest_tag) → AtTag total ls outer run bs o
+  is_refused : {at : List ℕ} {why : Why} → 0 < depth_left ls → TagRefuses bs why at → (IsLong ls bs → ⊥) → o ≡ refused (unsupported why) (place_of total at) → AtTag total ls outer run bs o
+  is_long : IsLong ls bs → o ≡ passed tag (place_of total bs + longest_tag) → AtTag total ls outer run bs o
   has_many : {end after : List ℕ} {e : WrittenElement} → 0 < depth_left ls → TagFormAt false total bs e end → EndsAt end after → tag_length bs after ≤ longest_tag
       → most_names < names_length e + used ls → o ≡ passed names (place_of total after) → AtTag total ls outer run bs o
 
@@ -194,7 +196,7 @@ at_tag e (instruction a g) = absurd (omega (arith, e, instruction_kind a))
 at_tag e (start_tag z f b m g) = starts z f b m g
 at_tag e (empty_tag z f b m g) = stands_alone z f b m g
 at_tag e (end_tag f s g) = ends (closes_one f s g)
-at_tag e (deep {rest = r} {past_name = p} {name = n} z q s) = is_deep z refl q s refl
+at_tag e (deep {rest = r} {past_name = p} {name = n} z q) = is_deep z refl q refl
 at_tag e (construct z t n) = is_refused z t n refl
 at_tag e (long_tag l) = is_long l refl
 at_tag e (many_names z f k s w) = has_many z f (ends_at k) s w refl
@@ -218,8 +220,8 @@ start_end f (closes_one a s h) = no_form_at_end_tag a.opens f
 named_end : {total : ℕ} {ls : List Level} {run bs r p : List ℕ} {o : Outcome} {n : QualifiedName} → bs ≡ 0x3C ∷ r → QNameAt r n p → Closing total ls run bs o → ⊥
 named_end {p = p} {n = n} is q (closes_one a s h) = no_qname 0x2F (omega arith) refl (subst (λ z. QNameAt z n p) (same_others (sym is ∙ a.opens)) q)
 
-long_end : {total : ℕ} {ls : List Level} {outer : List Bound} {run bs : List ℕ} {o : Outcome} → IsLong total ls outer bs → Closing total ls run bs o → ⊥
-long_end k (closes_one a s h) = long_not_short k (t.end_tag a) s
+long_end : {total : ℕ} {ls : List Level} {run bs : List ℕ} {o : Outcome} → IsLong ls bs → Closing total ls run bs o → ⊥
+long_end {total} k (closes_one a s h) = long_not_short {total = total} k (t.end_tag a) s
 
 pub open_empty : {total : ℕ} {bs r s : List ℕ} {e e' : WrittenElement} → TagFormAt false total bs e (0x3E ∷ r) → TagFormAt false total bs e' (codes "/>" ++ s) → ⊥
 open_empty f g = omega (arith, same_first (form_unique f g).1)
@@ -241,7 +243,7 @@ start_one : {total : ℕ} {ls : List Level} {outer : List Bound} {run bs : List 
 start_one z f b m g (starts z' f' b' m' h) = let same = tag_unique (tag_of f m) (tag_of f' m') in g (start_moved (form_unique f f').0 same.same_name same.same_scope (same_others same.same_after) h)
 start_one z f b m g (stands_alone z' f' b' m' h) = absurd (open_empty f f')
 start_one z f b m g (ends c') = absurd (start_end f c')
-start_one z f b m g (is_deep z' i' q' n' y) = absurd (omega (arith, z, z'))
+start_one z f b m g (is_deep z' i' q' y) = absurd (omega (arith, z, z'))
 start_one z f b m g (is_refused z' t' n' y) = absurd (refused_no_form t' f)
 start_one z f b m g (is_long l' y) = absurd (long_not_short l' (t.start_tag f) b.short)
 start_one {ls = ls} z f b m g (has_many z' f' k' s' w' y) = absurd (few_many (used ls) f b.few f' w')
@@ -255,36 +257,36 @@ empty_one {total} {ls} {outer} {run} {o' = o'} {after = r} {n = n} z f b m g (st
     let moved : GoesBehind total (closed n none (with_text run ls)) outer r' o' = subst (λ z. GoesBehind total (closed z none (with_text run ls)) outer r' o') (sym same.same_name) h in
     g (subst (λ z. GoesBehind total (closed n none (with_text run ls)) outer z o') (sym (append_cancel_left (codes "/>") r r' same.same_after)) moved)
 empty_one z f b m g (ends c') = absurd (start_end f c')
-empty_one z f b m g (is_deep z' i' q' n' y) = absurd (omega (arith, z, z'))
+empty_one z f b m g (is_deep z' i' q' y) = absurd (omega (arith, z, z'))
 empty_one z f b m g (is_refused z' t' n' y) = absurd (refused_no_form t' f)
 empty_one z f b m g (is_long l' y) = absurd (long_not_short l' (t.empty_tag f) b.short)
 empty_one {ls = ls} z f b m g (has_many z' f' k' s' w' y) = absurd (few_many (used ls) f b.few f' w')
 
-deep_one : {total : ℕ} {ls : List Level} {outer : List Bound} {run bs : List ℕ} {o o' : Outcome} {rest past_name : List ℕ} {name : QualifiedName} → depth_left ls ≡ 0 → bs ≡ 0x3C ∷ rest → QNameAt rest name past_name → (IsLong total ls outer bs → ⊥)
+deep_one : {total : ℕ} {ls : List Level} {outer : List Bound} {run bs : List ℕ} {o o' : Outcome} {rest past_name : List ℕ} {name : QualifiedName} → depth_left ls ≡ 0 → bs ≡ 0x3C ∷ rest → QNameAt rest name past_name
     → o ≡ refused too_deep (place_of total bs) → AtTag total ls outer run bs o' → o ≡ o'
-deep_one z i q n x (starts z' f' b' m' h) = absurd (omega (arith, z', z))
-deep_one z i q n x (stands_alone z' f' b' m' h) = absurd (omega (arith, z', z))
-deep_one z i q n x (ends c') = absurd (named_end i q c')
-deep_one z i q n x (is_deep z' i' q' n' y) = x ∙ sym y
-deep_one z i q n x (is_refused z' t' n' y) = absurd (omega (arith, z', z))
-deep_one z i q n x (is_long l' y) = absurd (n l')
-deep_one z i q n x (has_many z' f' k' s' w' y) = absurd (omega (arith, z', z))
+deep_one z i q x (starts z' f' b' m' h) = absurd (omega (arith, z', z))
+deep_one z i q x (stands_alone z' f' b' m' h) = absurd (omega (arith, z', z))
+deep_one z i q x (ends c') = absurd (named_end i q c')
+deep_one z i q x (is_deep z' i' q' y) = x ∙ sym y
+deep_one z i q x (is_refused z' t' n' y) = absurd (omega (arith, z', z))
+deep_one z i q x (is_long l' y) = absurd (long_deep z (tag_starts i q) l')
+deep_one z i q x (has_many z' f' k' s' w' y) = absurd (omega (arith, z', z))
 
-construct_one : {total : ℕ} {ls : List Level} {outer : List Bound} {run bs : List ℕ} {o o' : Outcome} {at : List ℕ} {why : Why} → 0 < depth_left ls → TagRefuses bs why at → (IsLong total ls outer bs → ⊥)
+construct_one : {total : ℕ} {ls : List Level} {outer : List Bound} {run bs : List ℕ} {o o' : Outcome} {at : List ℕ} {why : Why} → 0 < depth_left ls → TagRefuses bs why at → (IsLong ls bs → ⊥)
     → o ≡ refused (unsupported why) (place_of total at) → AtTag total ls outer run bs o' → o ≡ o'
 construct_one z t n x (starts z' f' b' m' h) = absurd (refused_no_form t f')
 construct_one z t n x (stands_alone z' f' b' m' h) = absurd (refused_no_form t f')
 construct_one z t n x (ends c') = absurd (named_end t.opens t.names c')
-construct_one z t n x (is_deep z' i' q' n' y) = absurd (omega (arith, z, z'))
+construct_one z t n x (is_deep z' i' q' y) = absurd (omega (arith, z, z'))
 construct_one {total} z t n x (is_refused z' t' n' y) = let same = tag_refused_once t t' in x ∙ (same_refusal (ap unsupported same.0) (ap (place_of total) same.1) ∙ sym y)
 construct_one z t n x (is_long l' y) = absurd (n l')
 construct_one z t n x (has_many z' f' k' s' w' y) = absurd (refused_no_form t f')
 
-long_one : {total : ℕ} {ls : List Level} {outer : List Bound} {run bs : List ℕ} {o o' : Outcome} → IsLong total ls outer bs → o ≡ passed tag (place_of total bs + longest_tag) → AtTag total ls outer run bs o' → o ≡ o'
+long_one : {total : ℕ} {ls : List Level} {outer : List Bound} {run bs : List ℕ} {o o' : Outcome} → IsLong ls bs → o ≡ passed tag (place_of total bs + longest_tag) → AtTag total ls outer run bs o' → o ≡ o'
 long_one l x (starts z' f' b' m' h) = absurd (long_not_short l (t.start_tag f') b'.short)
 long_one l x (stands_alone z' f' b' m' h) = absurd (long_not_short l (t.empty_tag f') b'.short)
 long_one l x (ends c') = absurd (long_end l c')
-long_one l x (is_deep z' i' q' n' y) = absurd (n' l)
+long_one l x (is_deep z' i' q' y) = absurd (long_deep z' (tag_starts i' q') l)
 long_one l x (is_refused z' t' n' y) = absurd (n' l)
 long_one l x (is_long l' y) = x ∙ sym y
 long_one l x (has_many z' f' k' s' w' y) = absurd (long_not_short l (whole_of_form f' k') s')
@@ -294,7 +296,7 @@ many_one : {total : ℕ} {ls : List Level} {outer : List Bound} {run bs : List �
 many_one {ls = ls} z f k s w x (starts z' f' b' m' h) = absurd (few_many (used ls) f' b'.few f w)
 many_one {ls = ls} z f k s w x (stands_alone z' f' b' m' h) = absurd (few_many (used ls) f' b'.few f w)
 many_one z f k s w x (ends c') = absurd (start_end f c')
-many_one z f k s w x (is_deep z' i' q' n' y) = absurd (omega (arith, z, z'))
+many_one z f k s w x (is_deep z' i' q' y) = absurd (omega (arith, z, z'))
 many_one z f k s w x (is_refused z' t' n' y) = absurd (refused_no_form t' f)
 many_one z f k s w x (is_long l' y) = absurd (long_not_short l' (whole_of_form f k) s)
 many_one {total} z f k s w x (has_many {after = r'} z' f' k' s' w' y) = x ∙ (ap (λ r. passed names (place_of total r)) (ends_one k (subst (λ z. EndsAt z r') (sym (form_unique f f').1) k')) ∙ sym y)
@@ -305,9 +307,9 @@ end_one f s g (starts z' f' b' m' h) = absurd (no_form_at_end_tag f.opens f')
 end_one f s g (stands_alone z' f' b' m' h) = absurd (no_form_at_end_tag f.opens f')
 end_one {total} {l} {ls} {run = run} {o' = o'} f s g (ends (closes_one {after = r'} f' s' h)) =
     g (subst (λ z. GoesBehind total (closed l.name (beside l.kids (kept run none)) ls) l.outer z o') (sym (end_tag_unique f f').1) h)
-end_one f s g (is_deep {past_name = p} {name = n} z' i' q' n' y) = absurd (no_qname 0x2F (omega arith) refl (subst (λ z. QNameAt z n p) (same_others (sym i' ∙ f.opens)) q'))
+end_one f s g (is_deep {past_name = p} {name = n} z' i' q' y) = absurd (no_qname 0x2F (omega arith) refl (subst (λ z. QNameAt z n p) (same_others (sym i' ∙ f.opens)) q'))
 end_one f s g (is_refused z' t' n' y) = absurd (no_qname 0x2F (omega arith) refl (subst (λ z. QNameAt z t'.written t'.past_name) (same_others (sym t'.opens ∙ f.opens)) t'.names))
-end_one f s g (is_long l' y) = absurd (long_not_short l' (t.end_tag f) s)
+end_one {total} f s g (is_long l' y) = absurd (long_not_short {total = total} l' (t.end_tag f) s)
 end_one f s g (has_many z' f' k' s' w' y) = absurd (no_form_at_end_tag f.opens f')
 
 -- two items at one place
@@ -355,9 +357,9 @@ mutual
   goes_one (empty_tag z f b m g) h = empty_one z f b m (λ k. behind_one g k) (at_tag (tag_begins (form_begins f)) h)
   goes_one (end_tag f s g) h = end_one f s (λ k. behind_one g k) (at_tag (tag_begins (end_tag_begins f)) h)
   goes_one (entity a) h = entity_one a (at_reference (reference_kind (as_reference a)) h)
-  goes_one (deep {rest = r} z q n) h = deep_one z refl q n refl (at_tag (named_kind r q) h)
+  goes_one (deep {rest = r} z q) h = deep_one z refl q refl (at_tag (named_kind r q) h)
   goes_one (construct z t n) h = construct_one z t n refl (at_tag (tag_begins (refused_begins t)) h)
-  goes_one (long_tag l) h = long_one l refl (at_tag (tag_begins l.begins) h)
+  goes_one (long_tag l) h = long_one l refl (at_tag (tag_begins (long_begins l)) h)
   goes_one (many_names z f k s w) h = many_one z f (ends_at k) s w refl (at_tag (tag_begins (form_begins f)) h)
 
   pub behind_one : {total : ℕ} {c : Closed} {scope : List Bound} {bs : List ℕ} {o o' : Outcome} → GoesBehind total c scope bs o → GoesBehind total c scope bs o' → o ≡ o'

@@ -1,6 +1,5 @@
 -- What comes of a text is what comes of it by steps.
 use Rattle.std.proofs.Common.{◌≡◌, inl, inr, ◌⊎◌, ℕ, suc, ◌<◌, ◌≤◌, ◌+◌, Bool, false, List, [], ◌∷◌, refl, ap, ◌∙◌, sym, subst, length, arith}
-use Rattle.tc_model.specs.Names.{IsChars}
 use Rattle.tc_model.specs.RawTrees.{Bound, RawTrees}
 use Rattle.tc_model.specs.XmlText.{XmlText, after_mark}
 use Rattle.tc_model.specs.XmlTextBytes.{place_of}
@@ -8,14 +7,16 @@ use Rattle.tc_model.specs.XmlTextContent.{Piece, ContentAt, at_end_tag, item, It
 use Rattle.tc_model.proofs.XmlTextRefused.{front_unique, whole_front}
 use Rattle.tc_stream.specs.XmlTextTags.{WrittenElement, TagFormAt, EndTagAt, WholeTagAt, ComesTo, open_names, tag_length}
 use Rattle.tc_stream.specs.XmlTextTags as t
-use Rattle.tc_stream.specs.XmlTextMeasures.{Measure, longest_tag, most_names, IsGood, BeginsTag, IsLongTag, PassesAt, PassesFirst, IsWithinMeasures}
+use Rattle.tc_stream.specs.Begins.{BeginsTag}
+use Rattle.tc_stream.specs.XmlTextMeasures.{Measure, longest_tag, most_names, IsGood, IsLongTag, PassesAt, PassesFirst, IsWithinMeasures}
 use Rattle.tc_stream.specs.XmlTextMeasures as m
 use Rattle.tc_stream.specs.Outcomes.{Outcome, document, refused, passed, Comes}
 use Rattle.tc_stream.specs.From.{FromFront, Standing, open_in, StillComes, ComesByItems}
 use Rattle.tc_stream.specs.declared.phases.Phase.TheVariants as phases
 use Rattle.tc_stream.proofs.MeasureLaws.{Ahead, ahead, element_there, tag_begins, good_texts_pass_nothing}
-use Rattle.tc_stream.proofs.CharacterLaws.{comes_chars, at_most_or_more}
-use Rattle.tc_stream.proofs.TagLaws.{open_end, empty_end, form_of, form_unique, whole_form_unique, whole_unique, no_form_at_end_tag, form_begins, end_tag_begins, long_form, long_end_tag}
+use Rattle.tc_stream.proofs.CharacterLaws.{at_most_or_more}
+use Rattle.tc_stream.proofs.TagLaws.{open_end, empty_end, form_of, form_unique, whole_form_unique, whole_unique, no_form_at_end_tag, form_begins, end_tag_begins}
+use Rattle.tc_stream.proofs.LongLaws.{long_form, long_end_tag}
 use Rattle.tc_stream.proofs.ComingLaws.{comes_document, comes_refused, comes_passed}
 use Rattle.tc_stream.proofs.GoingLaws.{told_front, none_before}
 
@@ -36,18 +37,18 @@ tag_there total d scope bs (x ∷ es) b r = by r.content refl refl
     by at_end_tag is e = inr (r.after, record { rest = r.end; past_name = r.past_name; opens = sym is ∙ e; names = r.names; closes = r.closes })
     by (item {rest = behind} {piece = p} a k) is e = inl (p, behind, element_there (tag_begins b) (subst (λ z. ItemAt false total scope d z p behind) is a))
 
-long_element : {total d : ℕ} {es : List WrittenElement} {outer : List Bound} {at after r : List ℕ} {piece : Piece} → IsChars at → ElementAt false total outer d at piece r → WholeTagAt total at after
-    → longest_tag < tag_length at after → IsLongTag total es outer d at
-long_element {at = at} chars (empty_tag a) w long =
-    long_form chars (form_of a) (empty_end refl) (subst (λ z. longest_tag < tag_length at z) (sym (whole_form_unique (form_of a) (empty_end refl) w)) long)
-long_element {at = at} chars (with_content a k n e) w long =
-    long_form chars (form_of a) (open_end refl) (subst (λ z. longest_tag < tag_length at z) (sym (whole_form_unique (form_of a) (open_end refl) w)) long)
+long_element : {total d : ℕ} {es : List WrittenElement} {outer : List Bound} {at after r : List ℕ} {piece : Piece} → ElementAt false total outer d at piece r → WholeTagAt total at after
+    → longest_tag < tag_length at after → IsLongTag longest_tag es d at
+long_element {at = at} (empty_tag a) w long =
+    long_form (form_of a) (empty_end refl) (subst (λ z. longest_tag < tag_length at z) (sym (whole_form_unique (form_of a) (empty_end refl) w)) long)
+long_element {at = at} (with_content a k n e) w long =
+    long_form (form_of a) (open_end refl) (subst (λ z. longest_tag < tag_length at z) (sym (whole_form_unique (form_of a) (open_end refl) w)) long)
 
-long_there : {total d : ℕ} {scope : List Bound} {at after : List ℕ} (es : List WrittenElement) → IsChars at → WholeTagAt total at after → longest_tag < tag_length at after
-    → ((piece : Piece) × (r : List ℕ) × ElementAt false total scope d at piece r) ⊎ Closes es at → IsLongTag total es scope d at
-long_there es chars w long (inl (p, r, e)) = long_element chars e w long
-long_there [] chars w long (inr k) = absurd k
-long_there {at = at} (x ∷ es) chars w long (inr (r, k)) = long_end_tag chars k (subst (λ z. longest_tag < tag_length at z) (whole_unique w (t.end_tag k)) long)
+long_there : {total d : ℕ} {scope : List Bound} {at after : List ℕ} (es : List WrittenElement) → WholeTagAt total at after → longest_tag < tag_length at after
+    → ((piece : Piece) × (r : List ℕ) × ElementAt false total scope d at piece r) ⊎ Closes es at → IsLongTag longest_tag es d at
+long_there es w long (inl (p, r, e)) = long_element e w long
+long_there [] w long (inr k) = absurd k
+long_there {at = at} (x ∷ es) w long (inr (r, k)) = long_end_tag k (subst (λ z. longest_tag < tag_length at z) (whole_unique w (t.end_tag k)) long)
 
 whole_begins : {total : ℕ} {bs after : List ℕ} → WholeTagAt total bs after → BeginsTag bs
 whole_begins (t.start_tag f) = form_begins f
@@ -83,7 +84,7 @@ good_of {bytes} x nowhere = record {
     short es scope d at after c w (inl low) = low
     short es scope d at after c w (inr long) =
         absurd (nowhere m.tag (place_of (length bytes) at + longest_tag)
-        (m.long_tag c (long_there es (comes_chars c x.characters) w long (tag_there (length bytes) d scope at es (whole_begins w) (ahead x c)))))
+        (m.long_tag c (long_there es w long (tag_there (length bytes) d scope at es (whole_begins w) (ahead x c)))))
 
     few : (e : WrittenElement) (es : List WrittenElement) (scope : List Bound) (d : ℕ) (at after : List ℕ) → ComesTo bytes es scope d at → TagFormAt false (length bytes) at e after
         → (open_names (e ∷ es) ≤ most_names) ⊎ (most_names < open_names (e ∷ es)) → open_names (e ∷ es) ≤ most_names
@@ -108,23 +109,23 @@ pub comes_by_steps : (bytes : List ℕ) (o : Outcome) (s : Standing) → StillCo
 comes_by_steps bytes (document d) s (front, k, go, same) =
     let steps : FromFront (length front) (after_mark front) (document d) = subst (λ n. FromFront n (after_mark front) (document d)) (nothing_before (length front)) go in
     let nowhere : (measure : Measure) (place : ℕ) → PassesAt front measure place → ⊥ =
-    λ measure place passes. none_before (suc place) k.characters steps (λ other earlier low e. cc) measure place (omega arith) passes in
+    λ measure place passes. none_before (suc place) steps (λ other earlier low e. cc) measure place (omega arith) passes in
     subst (λ z. Comes z (document d)) same (let (h, x, is) = told_front front steps k.characters in (h, good_of x nowhere, is))
 comes_by_steps bytes (refused cause place) s (front, k, go, same) =
     let steps : FromFront (length front) (after_mark front) (refused cause place) = subst (λ n. FromFront n (after_mark front) (refused cause place)) (nothing_before (length front)) go in
     let (at, x, is) = told_front front steps in (
       record { front = front; at = at; is_front = k; refuses = x; stands = is },
       λ other measure there is_other passes.
-          none_before (suc there) k.characters steps (λ other earlier low e. cc) measure there (omega arith) (subst (λ z. PassesAt z measure there) (front_unique is_other k) passes),
+          none_before (suc there) steps (λ other earlier low e. cc) measure there (omega arith) (subst (λ z. PassesAt z measure there) (front_unique is_other k) passes),
     )
 comes_by_steps bytes (passed measure place) s (front, k, go, same) =
     let steps : FromFront (length front) (after_mark front) (passed measure place) = subst (λ n. FromFront n (after_mark front) (passed measure place)) (nothing_before (length front)) go in
-    record { front = front; is_front = k; passes = told_front front steps; first = λ other elsewhere passes. earliest steps k.characters other elsewhere passes (at_most_or_more place elsewhere) }
+    record { front = front; is_front = k; passes = told_front front steps; first = λ other elsewhere passes. earliest steps other elsewhere passes (at_most_or_more place elsewhere) }
   where
-    earliest : FromFront (length front) (after_mark front) (passed measure place) → IsChars front → (other : Measure) (elsewhere : ℕ) → PassesAt front other elsewhere
+    earliest : FromFront (length front) (after_mark front) (passed measure place) → (other : Measure) (elsewhere : ℕ) → PassesAt front other elsewhere
         → (place ≤ elsewhere) ⊎ (elsewhere < place) → place ≤ elsewhere
-    earliest steps chars other elsewhere passes (inl low) = low
-    earliest steps chars other elsewhere passes (inr low) = absurd (none_before place chars steps (λ one there less e. omega (arith, less, place_same e)) other elsewhere low passes)
+    earliest steps other elsewhere passes (inl low) = low
+    earliest steps other elsewhere passes (inr low) = absurd (none_before place steps (λ one there less e. omega (arith, less, place_same e)) other elsewhere low passes)
 
 pub comes_to_steps : (bytes : List ℕ) (o : Outcome) (s : Standing) → Comes bytes o → StillComes 0 phases.Mark s bytes o
 comes_to_steps bytes (document d) s (h, good, is) =
@@ -132,7 +133,7 @@ comes_to_steps bytes (document d) s (h, good, is) =
     let steps = comes_document good.reads (record { passes_none = λ measure place passes low. good_texts_pass_nothing bytes h good bytes measure place front passes }) in
     (bytes, front, subst (λ n. FromFront n (after_mark bytes) (document d)) (sym (nothing_before (length bytes))) (subst (λ z. FromFront (length bytes) (after_mark bytes) (document z)) (sym is) steps), refl)
 comes_to_steps bytes (refused cause place) s (x, nowhere) =
-    let steps = comes_refused x.is_front.characters (λ measure there passes. nowhere x.front measure there x.is_front passes) x.refuses in (
+    let steps = comes_refused (λ measure there passes. nowhere x.front measure there x.is_front passes) x.refuses in (
       x.front,
       x.is_front,
       subst (λ n. FromFront n (after_mark x.front) (refused cause place)) (sym (nothing_before (length x.front)))
@@ -140,7 +141,7 @@ comes_to_steps bytes (refused cause place) s (x, nowhere) =
       tt,
     )
 comes_to_steps bytes (passed measure place) s x =
-    let steps = comes_passed {measure = measure} {place = place} x.is_front.characters (λ other earlier low passes. omega (arith, low, x.first other earlier passes)) x.passes in
+    let steps = comes_passed {measure = measure} {place = place} (λ other earlier low passes. omega (arith, low, x.first other earlier passes)) x.passes in
     (x.front, x.is_front, subst (λ n. FromFront n (after_mark x.front) (passed measure place)) (sym (nothing_before (length x.front))) steps, tt)
 
 pub comes_by_items : ComesByItems

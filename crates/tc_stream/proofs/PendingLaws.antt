@@ -8,7 +8,7 @@ use Rattle.tc_model.specs.Grammars.{Grammar}
 use Rattle.tc_model.specs.Names.{IsChars, is_ncname_start}
 use Rattle.tc_model.specs.Trees.{is_white_space_only}
 use Rattle.tc_model.specs.XmlTextBytes.{BeginsWithWhite}
-use Rattle.tc_model.specs.XmlTextNames.{NcNameAt, QualifiedName, QNameAt, unprefixed, prefixed}
+use Rattle.tc_model.specs.XmlTextNames.{NcNameAt}
 use Rattle.tc_model.specs.XmlTextScopes.{first_scope}
 use Rattle.tc_model.proofs.XmlTextChars.{one_char}
 use Rattle.tc_stream.specs.Outcomes.{Outcome}
@@ -30,8 +30,8 @@ use Rattle.tc_stream.proofs.ReadingLaws.{goes_on, grown, whole, pending_with, no
 
 -- what is known of what has begun
 
-pub pends_of : {x : Grammar} {s : Reader} {chars : List ℕ} {part : Part} (r : ReadsTo x s chars) → s.part ≡ part → Pends (length r.before) part s.tag.bytes.items r.pending
-pends_of {s = s} r at = subst (λ p. Pends (length r.before) p s.tag.bytes.items r.pending) at r.pends
+pub pends_of : {x : Grammar} {s : Reader} {chars : List ℕ} {part : Part} (r : ReadsTo x s chars) → s.part ≡ part → Pends (length r.before) part s r.pending
+pends_of {s = s} r at = subst (λ p. Pends (length r.before) p s r.pending) at r.pends
 
 pub may_of : {x : Grammar} {s : Reader} {chars : List ℕ} {part : Part} (r : ReadsTo x s chars) → s.part ≡ part → MayPend s.phase part
 may_of {s = s} r at = subst (λ p. MayPend s.phase p) at r.may
@@ -57,16 +57,11 @@ with_char front cs c e =
     let one : encode_utf8_all (cs ++ c ∷ []) ≡ encode_utf8_all cs ++ encode_utf8 c = encodes-append cs (c ∷ []) ∙ ap (λ z. encode_utf8_all cs ++ z) (append-nil (encode_utf8 c)) in
     ap (λ z. z ++ encode_utf8 c) e ∙ (append_assoc front (encode_utf8_all cs) (encode_utf8 c) ∙ ap (λ z. front ++ z) (sym one))
 
-ncname_starts : {bs name after : List ℕ} (c : ℕ) (f : List ℕ) → bs ≡ encode_utf8 c ++ f → NcNameAt bs name after → is_ncname_start c ≡ true
+pub ncname_starts : {bs name after : List ℕ} (c : ℕ) (f : List ℕ) → bs ≡ encode_utf8 c ++ f → NcNameAt bs name after → is_ncname_start c ≡ true
 ncname_starts {bs} {name} {after} c f e a =
     let (d, ds, is, starts, goes) = a.lawful in
     let same : encode_utf8 c ++ f ≡ encode_utf8 d ++ (encode_utf8_all ds ++ after) = sym e ∙ (a.parts ∙ (ap (λ w. w ++ after) (sym is) ∙ append_assoc (encode_utf8 d) (encode_utf8_all ds) after)) in
     ap is_ncname_start (encode_same c d f (encode_utf8_all ds ++ after) same).0 ∙ starts
-
--- what begins a name of an element
-pub qname_starts : {bs past : List ℕ} {name : QualifiedName} (c : ℕ) (f : List ℕ) → bs ≡ encode_utf8 c ++ f → QNameAt bs name past → is_ncname_start c ≡ true
-qname_starts c f e (unprefixed a n) = ncname_starts c f e a
-qname_starts c f e (prefixed a b) = ncname_starts c f e a
 
 -- how far a place lies that stands at the begin, or a byte behind it
 pub more_room : {x : Grammar} {s : Reader} {chars : List ℕ} (c p : ℕ) (r : ReadsTo x s chars) → r.pending ≢ [] → p ≤ s.begun + 1 → p ≤ length chars + length (encode_utf8 c)
@@ -81,11 +76,11 @@ pub record Stays (old new : Reader) : Type 0 where
   pub phase : new.phase ≡ old.phase
 
 pub grows : {x : Grammar} {old new : Reader} {chars : List ℕ} {from to : Part} (c : ℕ) (r : ReadsTo x old chars) → IsTrue (is_char c) → Stays old new → old.part ≡ from → new.part ≡ to → r.pending ≢ []
-    → is_white_space_only (known_text from r.pending) ≡ is_white_space_only (known_text to (r.pending ++ encode_utf8 c)) → MayPend old.phase to → Pends (length r.before) to new.tag.bytes.items (r.pending ++ encode_utf8 c)
+    → is_white_space_only (known_text from r.pending) ≡ is_white_space_only (known_text to (r.pending ++ encode_utf8 c)) → MayPend old.phase to → Pends (length r.before) to new (r.pending ++ encode_utf8 c)
     → ReadsTo x new (chars ++ encode_utf8 c)
 grows {x} {old} {new} {chars} {from} {to} c r char stays at is some text may pends =
     grown (encode_utf8 c) r (one_char c char) stays.phase (λ h. stays.begun ∙ r.begun some)
-    (subst (λ p. Pends (length r.before) p new.tag.bytes.items (r.pending ++ encode_utf8 c)) (sym is) pends)
+    (subst (λ p. Pends (length r.before) p new (r.pending ++ encode_utf8 c)) (sym is) pends)
     (subst (λ p. MayPend new.phase p) (sym is) (subst (λ z. MayPend z to) (sym stays.phase) may))
     (subst (λ p. Tells x (r.pending ++ encode_utf8 c) p new.elements new.phase r.standing) (sym is) (tells_moved stays.elements stays.phase (tells_alike text (tells_of r at))))
 
@@ -123,11 +118,11 @@ told_past (behind e v) = behind e v
 
 pub grows_past : {x : Grammar} {old new : Reader} {chars : List ℕ} {from to : Part} (c : ℕ) (r : ReadsTo x old chars) → IsTrue (is_char c) → Passes old new → old.part ≡ from → new.part ≡ to → r.pending ≢ []
     → IsNoDeclared (r.pending ++ encode_utf8 c)
-    → is_white_space_only (known_text from r.pending) ≡ is_white_space_only (known_text to (r.pending ++ encode_utf8 c)) → MayPend (past_front old.phase) to → Pends (length r.before) to new.tag.bytes.items (r.pending ++ encode_utf8 c)
+    → is_white_space_only (known_text from r.pending) ≡ is_white_space_only (known_text to (r.pending ++ encode_utf8 c)) → MayPend (past_front old.phase) to → Pends (length r.before) to new (r.pending ++ encode_utf8 c)
     → ReadsTo x new (chars ++ encode_utf8 c)
 grows_past {x} {old} {new} {chars} {from} {to} c r char passes at is some none text may pends =
     goes_on (encode_utf8 c) r.before (r.pending ++ encode_utf8 c) r.standing r refl r.before_chars (pending_with (encode_utf8 c) r (one_char c char)) (λ h. passes.begun ∙ r.begun some)
-    (subst (λ p. Pends (length r.before) p new.tag.bytes.items (r.pending ++ encode_utf8 c)) (sym is) pends)
+    (subst (λ p. Pends (length r.before) p new (r.pending ++ encode_utf8 c)) (sym is) pends)
     (subst (λ p. MayPend new.phase p) (sym is) (subst (λ z. MayPend z to) (sym passes.phase) may))
     (subst (λ p. Tells x (r.pending ++ encode_utf8 c) p new.elements new.phase r.standing) (sym is) (tells_moved passes.elements passes.phase (told_past (tells_alike text (tells_of r at)))))
     (λ f o. same f o)
@@ -158,13 +153,13 @@ not_front_past phases.End h = cc
 
 -- it ends
 
-pub ends : {x : Grammar} {old new : Reader} {chars : List ℕ} {to : Part} (c : ℕ) (standing : Standing) (r : ReadsTo x old chars) → IsTrue (is_char c) → new.part ≡ to → Pends (length (r.before ++ (r.pending ++ encode_utf8 c))) to new.tag.bytes.items []
+pub ends : {x : Grammar} {old new : Reader} {chars : List ℕ} {to : Part} (c : ℕ) (standing : Standing) (r : ReadsTo x old chars) → IsTrue (is_char c) → new.part ≡ to → Pends (length (r.before ++ (r.pending ++ encode_utf8 c))) to new []
     → MayPend new.phase to → Tells x [] to new.elements new.phase standing
     → ((f : List ℕ) (o : Outcome) → StillComes (length r.before) old.phase r.standing ((r.pending ++ encode_utf8 c) ++ f) o ↔ StillComes (length r.before + length (r.pending ++ encode_utf8 c)) new.phase standing f o)
     → ReadsTo x new (chars ++ encode_utf8 c)
 ends {x} {old} {new} {chars} {to} c standing r char is pends may tells step =
     whole (encode_utf8 c) standing r (one_char c char)
-    (subst (λ p. Pends (length (r.before ++ (r.pending ++ encode_utf8 c))) p new.tag.bytes.items []) (sym is) pends)
+    (subst (λ p. Pends (length (r.before ++ (r.pending ++ encode_utf8 c))) p new []) (sym is) pends)
     (subst (λ p. MayPend new.phase p) (sym is) may)
     (subst (λ p. Tells x [] p new.elements new.phase standing) (sym is) tells)
     step

@@ -160,7 +160,7 @@ pub valid_at_end : (x : Grammar) (s : Reader) (chars : List ℕ) → IsStart x.s
     → (h : RawTrees) × IsGood chars h × (IsTrue s.elements.validity.is_valid ↔ IsValid x (stripped h))
 valid_at_end x s chars start r part phase =
     let a = at_end r.tells phase in
-    let none_pending : r.pending ≡ [] = subst (λ z. Pends (length r.before) z s.tag.bytes.items r.pending) part r.pends in
+    let none_pending : r.pending ≡ [] = subst (λ z. Pends (length r.before) z s r.pending) part r.pends in
     let d = o.document (element a.name a.kids trees.none) in
     let there : StillComes (length r.before) phases.End (ended a.name a.kids) [] d = (document_step (length r.before) a.name a.kids d).1 refl in
     let here : StillComes (length r.before) s.phase r.standing (r.pending ++ []) d =

@@ -66,7 +66,7 @@ still_moved {n} {m} {p} {q} {bs} {cs} s o e f g h =
 
 -- from one place to another: what stands behind the characters so far comes to the same from where reading stands now
 pub goes_on : {x : Grammar} {old new : Reader} {chars : List ℕ} (c front pending : List ℕ) (standing : Standing) (r : ReadsTo x old chars) → r.before ++ (r.pending ++ c) ≡ front ++ pending
-    → IsChars front → IsChars pending → (pending ≢ [] → new.begun ≡ length front) → Pends (length front) new.part new.tag.bytes.items pending → MayPend new.phase new.part
+    → IsChars front → IsChars pending → (pending ≢ [] → new.begun ≡ length front) → Pends (length front) new.part new pending → MayPend new.phase new.part
     → Tells x pending new.part new.elements new.phase standing
     → ((f : List ℕ) (o : Outcome) → StillComes (length r.before) old.phase r.standing ((r.pending ++ c) ++ f) o ↔ StillComes (length front) new.phase standing (pending ++ f) o)
     → ReadsTo x new (chars ++ c)
@@ -97,7 +97,7 @@ goes_on {x} {old} {new} {chars} c front pending standing r same h k begun pends 
 
 -- more characters belong to what has begun
 pub grown : {x : Grammar} {old new : Reader} {chars : List ℕ} (c : List ℕ) (r : ReadsTo x old chars) → IsChars c → new.phase ≡ old.phase → (r.pending ++ c ≢ [] → new.begun ≡ length r.before)
-    → Pends (length r.before) new.part new.tag.bytes.items (r.pending ++ c) → MayPend new.phase new.part → Tells x (r.pending ++ c) new.part new.elements new.phase r.standing → ReadsTo x new (chars ++ c)
+    → Pends (length r.before) new.part new (r.pending ++ c) → MayPend new.phase new.part → Tells x (r.pending ++ c) new.part new.elements new.phase r.standing → ReadsTo x new (chars ++ c)
 grown {x} {old} {new} {chars} c r h phase begun pends may tells =
     goes_on c r.before (r.pending ++ c) r.standing r refl r.before_chars (pending_with c r h) begun pends may tells (λ f o. same f o)
   where
@@ -108,7 +108,7 @@ grown {x} {old} {new} {chars} c r h phase begun pends may tells =
     )
 
 -- they end what has begun
-pub whole : {x : Grammar} {old new : Reader} {chars : List ℕ} (c : List ℕ) (standing : Standing) (r : ReadsTo x old chars) → IsChars c → Pends (length (r.before ++ (r.pending ++ c))) new.part new.tag.bytes.items []
+pub whole : {x : Grammar} {old new : Reader} {chars : List ℕ} (c : List ℕ) (standing : Standing) (r : ReadsTo x old chars) → IsChars c → Pends (length (r.before ++ (r.pending ++ c))) new.part new []
     → MayPend new.phase new.part → Tells x [] new.part new.elements new.phase standing
     → ((f : List ℕ) (o : Outcome) → StillComes (length r.before) old.phase r.standing ((r.pending ++ c) ++ f) o ↔ StillComes (length r.before + length (r.pending ++ c)) new.phase standing f o)
     → ReadsTo x new (chars ++ c)
@@ -132,7 +132,7 @@ pub item_ended : {x : Grammar} {old new : Reader} {chars : List ℕ} (c : List �
     → ReadsTo x new (chars ++ c)
 item_ended {x} {old} {new} {chars} c phase standing r h part same tells step =
     whole c standing r h
-    (subst (λ q. Pends (length (r.before ++ (r.pending ++ c))) q new.tag.bytes.items []) (sym part) refl)
+    (subst (λ q. Pends (length (r.before ++ (r.pending ++ c))) q new []) (sym part) refl)
     (subst (λ q. MayPend new.phase q) (sym part) tt)
     (subst (λ p. Tells x [] new.part new.elements p standing) (sym same) (subst (λ q. Tells x [] q new.elements phase standing) (sym part) tells))
     (λ f o. (past f o, back f o))
@@ -145,10 +145,10 @@ item_ended {x} {old} {new} {chars} c phase standing r h part same tells step =
 
 -- and of one in which it goes on
 pub item_grown : {x : Grammar} {old new : Reader} {chars : List ℕ} (c : List ℕ) (next : Part) (r : ReadsTo x old chars) → IsChars c → r.pending ≢ [] → new.part ≡ next → new.phase ≡ old.phase → new.begun ≡ old.begun
-    → Pends (length r.before) next new.tag.bytes.items (r.pending ++ c) → MayPend old.phase next → Tells x (r.pending ++ c) next new.elements old.phase r.standing → ReadsTo x new (chars ++ c)
+    → Pends (length r.before) next new (r.pending ++ c) → MayPend old.phase next → Tells x (r.pending ++ c) next new.elements old.phase r.standing → ReadsTo x new (chars ++ c)
 item_grown {x} {old} {new} {chars} c next r h some part phase begun pends may tells =
     grown c r h phase (λ _. begun ∙ r.begun some)
-    (subst (λ q. Pends (length r.before) q new.tag.bytes.items (r.pending ++ c)) (sym part) pends)
+    (subst (λ q. Pends (length r.before) q new (r.pending ++ c)) (sym part) pends)
     (subst (λ p. MayPend p new.part) (sym phase) (subst (λ q. MayPend old.phase q) (sym part) may))
     (subst (λ p. Tells x (r.pending ++ c) new.part new.elements p r.standing) (sym phase) (subst (λ q. Tells x (r.pending ++ c) q new.elements old.phase r.standing) (sym part) tells))
 

@@ -1,18 +1,16 @@
 -- What a reader stands for as it goes on in a tag, and behind it.
-use Rattle.std.proofs.Common.{◌≡◌, ◌≢◌, inl, inr, ◌⊎◌, ℕ, ◌<◌, ◌≤◌, true, false, not, ◌==◌, List, [], ◌∷◌, ◌++◌, refl, ap, ◌∙◌, sym, subst, length, take, arith, codes, Option, None, append_assoc, append-nil}
-use Rattle.std.specs.Prelude.{◌↔◌, encode_utf8}
-use Rattle.std.proofs.lemmas.Bool.{true≢false, and_parts, and_from}
-use Rattle.std.proofs.lemmas.List.{take_all}
+use Rattle.std.proofs.Common.{◌≡◌, ◌≢◌, inl, inr, ◌⊎◌, ℕ, ◌<◌, ◌≤◌, true, not, ◌==◌, List, [], ◌∷◌, ◌++◌, refl, ap, ◌∙◌, sym, subst, length, arith, codes, Option, None, append_assoc, append-nil}
+use Rattle.std.specs.Prelude.{◌↔◌}
+use Rattle.std.proofs.lemmas.Bool.{and_from}
 use Rattle.std.proofs.lemmas.List.Folds.{list_all-append}
 use Rattle.tc_model.specs.Grammars.{Grammar}
-use Rattle.tc_model.specs.Names.{IsChars, is_ncname_start}
+use Rattle.tc_model.specs.Names.{IsChars}
 use Rattle.tc_model.specs.RawTrees.{Bound}
 use Rattle.tc_model.specs.XmlTextBytes.{FrontOf, Lacks}
 use Rattle.tc_model.specs.XmlTextScopes.{first_scope}
 use Rattle.tc_model.proofs.XmlTextChars.{no_chars, join_chars}
-use Rattle.tc_model.proofs.XmlTextPhrases.{same_first, same_others}
 use Rattle.tc_model.proofs.XmlTextRefused.{front_unique, whole_front}
-use Rattle.tc_stream.specs.XmlTextMeasures.{BeginsTag}
+use Rattle.tc_stream.specs.Begins.{BeginsTag}
 use Rattle.tc_stream.specs.Outcomes.{Outcome, Comes}
 use Rattle.tc_stream.specs.Goes.{Level}
 use Rattle.tc_stream.specs.From.{Standing, open_in, StillComes}
@@ -30,10 +28,9 @@ use Rattle.tc_stream.specs.declared.parts.Part.TheVariants as parts
 use Rattle.tc_stream.specs.declared.phases.Phase.{Phase}
 use Rattle.tc_stream.specs.declared.phases.Phase.TheVariants as phases
 use Rattle.tc_stream.specs.declared.reader.Reader.{Reader}
-use Rattle.tc_stream.proofs.EncodedLaws.{first_byte, free_of}
-use Rattle.tc_stream.proofs.SplitLaws.{free_before}
+use Rattle.tc_stream.proofs.EncodedLaws.{free_of}
+use Rattle.tc_stream.proofs.LongLaws.{Starts, end_begins, free_lack, lacks_free, start_begins, starts_kept}
 use Rattle.tc_stream.proofs.TagEndLaws.{then_tag, tag_more}
-use Rattle.tc_stream.proofs.TagSearch.{lacks_one}
 use Rattle.tc_stream.proofs.RootOpens.{root_opens}
 use Rattle.tc_stream.proofs.OutcomeLaws.{comes_by_items}
 
@@ -69,7 +66,7 @@ new_reads x s phase part keeps steps = record {
   before_chars = no_chars;
   pending_chars = no_chars;
   begun = λ h. absurd (h refl);
-  pends = subst (λ p. Pends 0 p s.tag.bytes.items []) (sym part) refl;
+  pends = subst (λ p. Pends 0 p s []) (sym part) refl;
   may = subst (λ p. MayPend s.phase p) (sym part) tt;
   standing = open_in [] [] [];
   tells = t.before (λ e. mark_content (sym phase ∙ e)) (λ e. mark_end (sym phase ∙ e)) keeps steps;
@@ -165,68 +162,29 @@ stands_by x s chars more part r same b is none h k = (
         subst (λ z. Comes z o) (sym (append_assoc chars more y))
         ((r.comes (more ++ y) o).1 (subst (λ z. StillComes (length r.before) s.phase r.standing (z ++ (more ++ y)) o) (sym same) here))
 
--- a tag that begins so
-
-byte_apart : (c d : ℕ) → is_ncname_start c ≡ true → d < 128 → is_ncname_start d ≡ false → (first_byte c).byte ≢ d
-byte_apart c d starts low none e = by (first_byte c).low_or_high
-  where
-    by : ((c < 128) × ((first_byte c).byte ≡ c)) ⊎ ((128 ≤ (first_byte c).byte) × (128 ≤ c)) → ⊥
-    by (inl (l, same)) = true≢false (sym starts ∙ (ap is_ncname_start (sym same ∙ e) ∙ none))
-    by (inr (high, h)) = omega (arith, high, low, e)
-
-begins_start : (c : ℕ) (rest kept : List ℕ) → kept ≡ 0x3C ∷ (encode_utf8 c ++ rest) → is_ncname_start c ≡ true → (b : BeginsTag kept) × (b.next ≢ 0x2F)
-begins_start c rest kept is starts = (
-  record {
-    next = (first_byte c).byte;
-    rest = (first_byte c).others ++ rest;
-    opens = is ∙ ap (λ w. 0x3C ∷ (w ++ rest)) (first_byte c).is;
-    no_mark = byte_apart c 0x21 starts (omega arith) refl;
-    no_instruction = byte_apart c 0x3F starts (omega arith) refl;
-  },
-  byte_apart c 0x2F starts (omega arith) refl,
-)
-
-begins_end : (rest kept : List ℕ) → kept ≡ codes "</" ++ rest → (b : BeginsTag kept) × (b.next ≡ 0x2F)
-begins_end rest kept is = (record { next = 0x2F; rest = rest; opens = is; no_mark = λ e. omega (arith, e); no_instruction = λ e. omega (arith, e) }, refl)
-
--- the first two bytes of a tag are those of what begins so
-pub begins_prefix : {item : List ℕ} (w v : List ℕ) (b : BeginsTag item) → item ≡ w ++ v → 2 ≤ length w → (a : BeginsTag w) × (a.next ≡ b.next)
-begins_prefix [] v b is some = absurd (omega (arith, some))
-begins_prefix (c ∷ []) v b is some = absurd (omega (arith, some))
-begins_prefix (c ∷ d ∷ w) v b is some =
-    let all = sym is ∙ b.opens in
-    let next = same_first (same_others all) in (
-      record { next = d; rest = w; opens = ap (λ z. z ∷ (d ∷ w)) (same_first all); no_mark = λ e. b.no_mark (sym next ∙ e); no_instruction = λ e. b.no_instruction (sym next ∙ e) },
-      next,
-    )
-
 -- a start tag or an empty-element tag that is kept
 
 pub record KeptStart (x : Grammar) (s : Reader) (chars : List ℕ) (q : Option ℕ) : Type 0 where
   pub reads : ReadsTo x s chars
   pub same : reads.pending ≡ s.tag.bytes.items
-  pub char : ℕ
-  pub rest : List ℕ
-  pub opens : s.tag.bytes.items ≡ 0x3C ∷ (encode_utf8 char ++ rest)
-  pub starts : is_ncname_start char ≡ true
-  pub begins : BeginsTag s.tag.bytes.items
-  pub apart : begins.next ≢ 0x2F
+  pub opens : Starts s.tag.bytes.items
   pub scanned : tag_scan None s.tag.bytes.items ≡ quoted q
   pub low : length s.tag.bytes.items ≤ 65536
+  pub room : length s.elements.levels.items < 2000
   pub not_mark : s.phase ≢ phases.Mark
   pub not_end : s.phase ≢ phases.End
 
 pub kept_start : (x : Grammar) (s : Reader) (chars : List ℕ) (q : Option ℕ) → ReadsTo x s chars → s.part ≡ parts.Tag q → KeptStart x s chars q
 kept_start x s chars q r is =
-    let p : Pends (length r.before) (parts.Tag q) s.tag.bytes.items r.pending = subst (λ z. Pends (length r.before) z s.tag.bytes.items r.pending) is r.pends in
+    let p : Pends (length r.before) (parts.Tag q) s r.pending = subst (λ z. Pends (length r.before) z s r.pending) is r.pends in
     let m : MayPend s.phase (parts.Tag q) = subst (λ z. MayPend s.phase z) is r.may in
     let (c, rest, opens, starts) = p.1 in
-    let b = begins_start c rest s.tag.bytes.items opens starts in
-    record { reads = r; same = p.0; char = c; rest = rest; opens = opens; starts = starts; begins = b.0; apart = b.1; scanned = p.2; low = p.3; not_mark = m.0; not_end = m.1 }
+    let so : Starts s.tag.bytes.items = record { char = c; rest = rest; opens = opens; starts = starts } in
+    record { reads = r; same = p.0; opens = so; scanned = p.2; low = p.3; room = p.4; not_mark = m.0; not_end = m.1 }
 
 pub stands_start : (x : Grammar) (s : Reader) (chars more : List ℕ) (q : Option ℕ) (k : KeptStart x s chars q) → s.part ≡ parts.Tag q → IsChars more
     → TagStands x s.elements s.begun (s.tag.bytes.items ++ more) (chars ++ more)
-stands_start x s chars more q k is h = (stands_by x s chars more (parts.Tag q) k.reads k.same k.begins is (λ w. refl) k.not_end h).0
+stands_start x s chars more q k is h = (stands_by x s chars more (parts.Tag q) k.reads k.same (start_begins k.opens) is (λ w. refl) k.not_end h).0
 
 -- what its scan is with more
 pub scan_on : (kept more : List ℕ) (q : Option ℕ) → tag_scan None kept ≡ quoted q → tag_scan None (kept ++ more) ≡ tag_scan q more
@@ -246,9 +204,9 @@ pub record KeptEnd (x : Grammar) (s : Reader) (chars : List ℕ) : Type 0 where
 
 pub kept_end : (x : Grammar) (s : Reader) (chars : List ℕ) → ReadsTo x s chars → s.part ≡ parts.EndTag → KeptEnd x s chars
 kept_end x s chars r is =
-    let p : Pends (length r.before) parts.EndTag s.tag.bytes.items r.pending = subst (λ z. Pends (length r.before) z s.tag.bytes.items r.pending) is r.pends in
+    let p : Pends (length r.before) parts.EndTag s r.pending = subst (λ z. Pends (length r.before) z s r.pending) is r.pends in
     let m : MayPend s.phase parts.EndTag = subst (λ z. MayPend s.phase z) is r.may in
-    let b = begins_end p.1.0 s.tag.bytes.items p.1.1 in
+    let b = end_begins p.1.0 p.1.1 in
     record { reads = r; same = p.0; rest = p.1.0; opens = p.1.1; begins = b.0; slash = b.1; lacks = p.2; content = m }
 
 pub stands_end : (x : Grammar) (s : Reader) (chars more : List ℕ) (k : KeptEnd x s chars) → s.part ≡ parts.EndTag → IsChars more
@@ -258,21 +216,8 @@ stands_end x s chars more k is h =
 
 -- bytes without a `>`
 
-pub lacks_free : (w : List ℕ) → Lacks (0x3E ∷ []) w → free_of 0x3E w ≡ true
-lacks_free w l = ap (free_of 0x3E) (sym (take_all (length w) w (omega arith)) ∙ ap (λ n. take n w) (sym l)) ∙ free_before 0x3E w
-
-pub free_lack : (w : List ℕ) → free_of 0x3E w ≡ true → Lacks (0x3E ∷ []) w
-free_lack [] h = refl
-free_lack (b ∷ w) h =
-    let both = and_parts (not (b == 0x3E)) (free_of 0x3E w) h in lacks_one b w (λ e. true≢false (sym both.0 ∙ ap not e)) (free_lack w both.1)
-
 pub free_join : (w v : List ℕ) → Lacks (0x3E ∷ []) w → Lacks (0x3E ∷ []) v → free_of 0x3E (w ++ v) ≡ true
 free_join w v h k = list_all-append (λ b. not (b == 0x3E)) w v ∙ and_from (free_of 0x3E w) (free_of 0x3E v) (lacks_free w h) (lacks_free v k)
-
-pub free_front : (w v : List ℕ) → free_of 0x3E (w ++ v) ≡ true → free_of 0x3E w ≡ true
-free_front [] v h = refl
-free_front (b ∷ w) v h =
-    let both = and_parts (not (b == 0x3E)) (free_of 0x3E (w ++ v)) h in and_from (not (b == 0x3E)) (free_of 0x3E w) both.0 (free_front w v both.1)
 
 -- more of a tag is kept
 
@@ -284,7 +229,7 @@ tells_over {x} {w} {part} {e} next v none too (t.within {ls = ls} {l = l} {run =
 tells_over next v none too (t.behind is valid) = t.behind is valid
 
 grown : (x : Grammar) (s u : Reader) (chars more : List ℕ) (part next : Part) (r : ReadsTo x s chars) → s.part ≡ part → u.part ≡ next → ((z : List ℕ) → known_text part z ≡ []) → ((z : List ℕ) → known_text next z ≡ [])
-    → u.elements ≡ s.elements → u.phase ≡ s.phase → u.begun ≡ s.begun → r.pending ≢ [] → IsChars more → Pends (length r.before) next u.tag.bytes.items (r.pending ++ more) → MayPend s.phase next
+    → u.elements ≡ s.elements → u.phase ≡ s.phase → u.begun ≡ s.begun → r.pending ≢ [] → IsChars more → Pends (length r.before) next u (r.pending ++ more) → MayPend s.phase next
     → ReadsTo x u (chars ++ more)
 grown x s u chars more part next r is now none too elements phase begun some h pends may = record {
   before = r.before;
@@ -293,7 +238,7 @@ grown x s u chars more part next r is now none too elements phase begun some h p
   before_chars = r.before_chars;
   pending_chars = join_chars r.pending more r.pending_chars h;
   begun = λ e. begun ∙ r.begun some;
-  pends = subst (λ z. Pends (length r.before) z u.tag.bytes.items (r.pending ++ more)) (sym now) pends;
+  pends = subst (λ z. Pends (length r.before) z u (r.pending ++ more)) (sym now) pends;
   may = subst (λ z. MayPend u.phase z) (sym now) (subst (λ z. MayPend z next) (sym phase) may);
   standing = r.standing;
   tells =
@@ -310,16 +255,13 @@ grown x s u chars more part next r is now none too elements phase begun some h p
 pub grown_start : (x : Grammar) (s u : Reader) (chars more : List ℕ) (q next : Option ℕ) (k : KeptStart x s chars q) → s.part ≡ parts.Tag q → u.part ≡ parts.Tag next → u.elements ≡ s.elements → u.phase ≡ s.phase
     → u.begun ≡ s.begun → u.tag.bytes.items ≡ s.tag.bytes.items ++ more → length u.tag.bytes.items ≤ 65536 → tag_scan q more ≡ quoted next → IsChars more → ReadsTo x u (chars ++ more)
 grown_start x s u chars more q next k is now elements phase begun tag low scanned h =
-    grown x s u chars more (parts.Tag q) (parts.Tag next) k.reads is now (λ z. refl) (λ z. refl) elements phase begun (λ e. omega (arith, ap length (sym e ∙ (k.same ∙ k.begins.opens)))) h (
+    let more_of = starts_kept more k.opens in
+    grown x s u chars more (parts.Tag q) (parts.Tag next) k.reads is now (λ z. refl) (λ z. refl) elements phase begun (λ e. omega (arith, ap length (sym e ∙ (k.same ∙ k.opens.opens)))) h (
       ap (λ w. w ++ more) k.same ∙ sym tag,
-      (
-        k.char,
-        k.rest ++ more,
-        tag ∙ (ap (λ w. w ++ more) k.opens ∙ ap (λ w. 0x3C ∷ w) (append_assoc (encode_utf8 k.char) k.rest more)),
-        k.starts,
-      ),
+      (more_of.char, more_of.rest, tag ∙ more_of.opens, more_of.starts),
       ap (tag_scan None) tag ∙ (scan_on s.tag.bytes.items more q k.scanned ∙ scanned),
       low,
+      subst (λ e. length e.levels.items < 2000) (sym elements) k.room,
     )
     (k.not_mark, k.not_end)
 
@@ -349,7 +291,7 @@ reads_behind x u e chars b elements part inside outside = record {
   before_chars = b.characters;
   pending_chars = no_chars;
   begun = λ h. absurd (h refl);
-  pends = subst (λ z. Pends (length chars) z u.tag.bytes.items []) (sym part) refl;
+  pends = subst (λ z. Pends (length chars) z u []) (sym part) refl;
   may = subst (λ z. MayPend u.phase z) (sym part) tt;
   standing = b.standing;
   tells =

@@ -13,7 +13,7 @@ use Rattle.tc_model.specs.XmlTextNames.{NcNameAt}
 use Rattle.tc_model.specs.XmlTextMisc.{InstructionAt}
 use Rattle.tc_model.proofs.XmlTextPhrases.{same_first, same_others}
 use Rattle.tc_model.proofs.XmlTextUnique.{kind}
-use Rattle.tc_stream.specs.XmlTextMeasures.{longest_tag, BeginsTag}
+use Rattle.tc_stream.specs.XmlTextMeasures.{longest_tag}
 use Rattle.tc_stream.specs.Cuts.{BeginsNoChar}
 use Rattle.tc_stream.specs.Outcomes.{Outcome}
 use Rattle.tc_stream.specs.Goes.{Level, Goes}
@@ -43,7 +43,8 @@ use Rattle.tc_stream.proofs.DeclarationReads.{IsDeclared}
 use Rattle.tc_stream.proofs.DeclarationSteps.{declaration_unended}
 use Rattle.tc_stream.proofs.DoctypeSteps.{doctype_unended}
 use Rattle.tc_stream.proofs.EncodedLaws.{free_of}
-use Rattle.tc_stream.proofs.EndOpen.{lacks_free}
+use Rattle.tc_stream.proofs.LongLaws.{end_begins, lacks_free}
+use Rattle.tc_stream.proofs.DeepReads.{deep_in, prefix_unended}
 use Rattle.tc_stream.proofs.EndSteps.{root_missing, bad_behind}
 use Rattle.tc_stream.proofs.HopelessSteps.{StandsIn, content_other}
 use Rattle.tc_stream.proofs.InstructionLaws.{name_before}
@@ -119,10 +120,7 @@ section_none n inside f o brackets (content {ls = ls} {l = l} {scope = scope} {r
 end_none : {x : Grammar} {known : List ℕ} {e : Elements} {s : Standing} (n : ℕ) (rest f : List ℕ) (o : Outcome) → InContent x known e s → IsChars (codes "</" ++ rest) → BeginsNoChar f → length (codes "</" ++ rest) ≤ longest_tag
     → free_of 0x3E (codes "</" ++ rest) ≡ true → StillComes n phases.Content s ((codes "</" ++ rest) ++ f) o → ⊥
 end_none n rest f o (content {ls = ls} {l = l} {scope = scope} {run = run} k a) chars last low free g =
-    end_unended n (codes "</" ++ rest) f (l ∷ ls) scope run o there refl chars last low free g
-  where
-    there : BeginsTag (codes "</" ++ rest)
-    there = record { next = 0x2F; rest = rest; opens = refl; no_mark = λ e. omega (arith, e); no_instruction = λ e. omega (arith, e) }
+    let b = end_begins rest refl in end_unended n (codes "</" ++ rest) f (l ∷ ls) scope run o b.0 b.1 chars last low free g
 
 -- in a processing instruction
 
@@ -180,38 +178,40 @@ instruction_none n pending name inside f question {phase} o at m q item lawful w
 
 -- wherever it ends, but in a start tag
 
-none_left : {x : Grammar} {e : Elements} {phase : Phase} {s : Standing} (n : ℕ) (part : Part) (kept pending f : List ℕ) (o : Outcome) → Pends n part kept pending → MayPend phase part → Tells x pending part e phase s → IsChars pending → BeginsNoChar f
-    → ((q : Option ℕ) → part ≡ parts.Tag q → ⊥) → (part ≡ parts.Between → phase ≡ phases.End → f ≢ []) → StillComes n phase s (pending ++ f) o → ⊥
-none_left {phase = phase} {s = s} n parts.Between kept pending f o p m t chars last not_tag some g = between_none n f o t last (some refl) (subst (λ w. StillComes n phase s (w ++ f) o) p g)
-none_left {s = s} n (parts.Data brackets) kept pending f o p m t chars last not_tag some g = data_none n pending f o (in_content_of m t) p chars last (subst (λ z. StillComes n z s (pending ++ f) o) m g)
-none_left {phase = phase} {s = s} n parts.Markup kept pending f o p m t chars last not_tag some g =
+none_left : {x : Grammar} {phase : Phase} {s : Standing} (n : ℕ) (part : Part) (kept : Reader) (pending f : List ℕ) (o : Outcome) → Pends n part kept pending → MayPend phase part → Tells x pending part kept.elements phase s → IsChars pending → BeginsNoChar f
+    → ((q : Option ℕ) → part ≡ parts.Tag q → ⊥) → (part ≡ parts.DeepName → ⊥) → (part ≡ parts.Between → phase ≡ phases.End → f ≢ []) → StillComes n phase s (pending ++ f) o → ⊥
+none_left {phase = phase} {s = s} n parts.Between kept pending f o p m t chars last not_tag not_deep some g = between_none n f o t last (some refl) (subst (λ w. StillComes n phase s (w ++ f) o) p g)
+none_left {s = s} n (parts.Data brackets) kept pending f o p m t chars last not_tag not_deep some g = data_none n pending f o (in_content_of m t) p chars last (subst (λ z. StillComes n z s (pending ++ f) o) m g)
+none_left {phase = phase} {s = s} n parts.Markup kept pending f o p m t chars last not_tag not_deep some g =
     markup_last n f phase s o (stands_in m t) last (subst IsChars p chars) (subst (λ w. StillComes n phase s (w ++ f) o) p g)
-none_left {phase = phase} {s = s} n parts.Marked kept pending f o p m t chars last not_tag some g =
+none_left {phase = phase} {s = s} n parts.Marked kept pending f o p m t chars last not_tag not_deep some g =
     bang_last n [] f phase s o (stands_in m t) (subst IsChars p chars) last (λ r e. too_short (codes "<!") (codes "<!--") r (omega arith) e) (no_mark_short phase (codes "<!") m (omega arith))
     (subst (λ w. StillComes n phase s (w ++ f) o) p g)
-none_left n (parts.Mark mark count) kept pending f o (some, low, p) (m, q, h) t chars last not_tag at_end g = mark_none n pending f mark count o (stands_in m t) m some low p chars last g
-none_left {s = s} n (parts.Reference known) kept pending f o (state, cs, p, scanned, k) m t chars last not_tag some g =
+none_left n (parts.Mark mark count) kept pending f o (some, low, p) (m, q, h) t chars last not_tag not_deep at_end g = mark_none n pending f mark count o (stands_in m t) m some low p chars last g
+none_left {s = s} n (parts.Reference known) kept pending f o (state, cs, p, scanned, k) m t chars last not_tag not_deep some g =
     reference_none n cs f o state (in_content_of m t) (subst IsChars p chars) last scanned (subst (λ w. StillComes n phases.Content s (w ++ f) o) p (subst (λ z. StillComes n z s (pending ++ f) o) m g))
-none_left {phase = phase} {s = s} n (parts.Comment hyphens) kept pending f o (inside, p, scanned) (m, q) t chars last not_tag some g =
+none_left {phase = phase} {s = s} n (parts.Comment hyphens) kept pending f o (inside, p, scanned) (m, q) t chars last not_tag not_deep some g =
     comment_unended n inside f hyphens phase s o (stands_in m t) (subst IsChars p chars) last scanned (subst (λ w. StillComes n phase s (w ++ f) o) p g)
-none_left {s = s} n (parts.Cdata brackets) kept pending f o (inside, p, scanned) m t chars last not_tag some g =
+none_left {s = s} n (parts.Cdata brackets) kept pending f o (inside, p, scanned) m t chars last not_tag not_deep some g =
     section_none n inside f o brackets (in_content_of m t) (subst IsChars p chars) last scanned (subst (λ w. StillComes n phases.Content s (w ++ f) o) p (subst (λ z. StillComes n z s (pending ++ f) o) m g))
-none_left n (parts.Target target) kept pending f o (state, name, p, so_far, k) m t chars last not_tag some g = target_unended n pending name f state o (stands_in m t) m p so_far chars last g
-none_left n parts.Targeted kept pending f o (name, p, lawful) (m, q) t chars last not_tag some g = targeted_unended n pending name f o (stands_in m t) m q p lawful chars last g
-none_left n (parts.Instruction question) kept pending f o (name, inside, p, lawful, white, scanned) (m, q) t chars last not_tag some g =
+none_left n (parts.Target target) kept pending f o (state, name, p, so_far, k) m t chars last not_tag not_deep some g = target_unended n pending name f state o (stands_in m t) m p so_far chars last g
+none_left n parts.Targeted kept pending f o (name, p, lawful) (m, q) t chars last not_tag not_deep some g = targeted_unended n pending name f o (stands_in m t) m q p lawful chars last g
+none_left n (parts.Instruction question) kept pending f o (name, inside, p, lawful, white, scanned) (m, q) t chars last not_tag not_deep some g =
     instruction_none n pending name inside f question o (stands_in m t) m q p lawful white scanned chars last g
-none_left {s = s} n (parts.Declaration known) kept pending f o (state, inside, p, white, scanned, k, low) m t chars last not_tag some g =
+none_left {s = s} n (parts.Declaration known) kept pending f o (state, inside, p, white, scanned, k, low) m t chars last not_tag not_deep some g =
     declaration_unended n inside f s o state (subst IsChars p chars) white last scanned (subst (λ w. StillComes n phases.Front s (w ++ f) o) p (subst (λ z. StillComes n z s (pending ++ f) o) m g))
-none_left {s = s} n (parts.Doctype known) kept pending f o (cs, p, scanned) m t chars last not_tag some g =
+none_left {s = s} n (parts.Doctype known) kept pending f o (cs, p, scanned) m t chars last not_tag not_deep some g =
     doctype_unended n cs f s o (typing_of known) (subst IsChars p chars) last scanned (subst (λ w. StillComes n phases.Prolog s (w ++ f) o) p (subst (λ z. StillComes n z s (pending ++ f) o) m g))
-none_left n (parts.Tag quote) kept pending f o p m t chars last not_tag some g = not_tag quote refl
-none_left {s = s} n parts.EndTag kept pending f o (p, (rest, opens), lacks, low) m t chars last not_tag some g =
+none_left n (parts.Tag quote) kept pending f o p m t chars last not_tag not_deep some g = not_tag quote refl
+none_left n parts.DeepName kept pending f o p m t chars last not_tag not_deep some g = not_deep refl
+none_left n parts.DeepPrefix kept pending f o (p, is, lawful, full) m t chars last not_tag not_deep some g = prefix_unended n pending p f o (deep_in full t) is lawful chars last g
+none_left {s = s} n parts.EndTag kept pending f o (p, (rest, opens), lacks, low) m t chars last not_tag not_deep some g =
     let item : pending ≡ codes "</" ++ rest = p ∙ opens in
-    end_none n rest f o (in_content_of m t) (subst IsChars item chars) last (subst (λ w. length w ≤ longest_tag) opens low) (lacks_free 0x3E (codes "</" ++ rest) (subst (λ w. Lacks (0x3E ∷ []) w) opens lacks))
+    end_none n rest f o (in_content_of m t) (subst IsChars item chars) last (subst (λ w. length w ≤ longest_tag) opens low) (lacks_free (codes "</" ++ rest) (subst (λ w. Lacks (0x3E ∷ []) w) opens lacks))
     (subst (λ w. StillComes n phases.Content s (w ++ f) o) item (subst (λ z. StillComes n z s (pending ++ f) o) m g))
 
 -- what has begun is something
-some_pending : (n : ℕ) (part : Part) (kept pending : List ℕ) → Pends n part kept pending → (part ≡ parts.Between → ⊥) → pending ≢ []
+some_pending : (n : ℕ) (part : Part) (kept : Reader) (pending : List ℕ) → Pends n part kept pending → (part ≡ parts.Between → ⊥) → pending ≢ []
 some_pending n parts.Between kept pending p not_between = absurd (not_between refl)
 some_pending n (parts.Data brackets) kept pending p not_between = λ e. omega (arith, p.some, ap length e)
 some_pending n parts.Markup kept pending p not_between = nonempty p
@@ -225,21 +225,23 @@ some_pending n parts.Targeted kept pending (name, p, lawful) not_between = nonem
 some_pending n (parts.Instruction question) kept pending (name, inside, p, lawful, white, scanned) not_between = nonempty p
 some_pending n (parts.Declaration known) kept pending (state, inside, p, white, scanned, k, low) not_between = nonempty p
 some_pending n (parts.Doctype known) kept pending (cs, p, scanned) not_between = nonempty p
-some_pending n (parts.Tag quote) kept pending (p, (c, rest, opens, starts), scanned, low) not_between = nonempty (p ∙ opens)
+some_pending n (parts.Tag quote) kept pending (p, (c, rest, opens, starts), scanned, low, room) not_between = nonempty (p ∙ opens)
 some_pending n parts.EndTag kept pending (p, (rest, opens), lacks, low) not_between = nonempty (p ∙ opens)
+some_pending n parts.DeepName kept pending (name, is, lawful, full) not_between = nonempty is
+some_pending n parts.DeepPrefix kept pending (prefix, is, lawful, full) not_between = nonempty is
 
 -- the fault of a text that stops there
 pub stops : {x : Grammar} {s : Reader} {chars : List ℕ} {e : StreamFault} {stop : Place} (f : List ℕ) (r : ReadsTo x s chars) → BeginsNoChar f → ((q : Option ℕ) → s.part ≡ parts.Tag q → ⊥)
-    → (s.part ≡ parts.Between → s.phase ≡ phases.End → f ≢ []) → e ≡ faults.Malformed stop → stop.0 ≤ length chars → IsFaultOf (chars ++ f) e
-stops {x} {s} {chars} {e} {stop} f r last not_tag some is low =
+    → (s.part ≡ parts.DeepName → ⊥) → (s.part ≡ parts.Between → s.phase ≡ phases.End → f ≢ []) → e ≡ faults.Malformed stop → stop.0 ≤ length chars → IsFaultOf (chars ++ f) e
+stops {x} {s} {chars} {e} {stop} f r last not_tag not_deep some is low =
     subst (λ z. IsFaultOf (chars ++ f) z) (sym is)
     (nothing_behind f r stop (omega (arith, low, length-append chars f))
-    (λ o g. none_left (length r.before) s.part s.tag.bytes.items r.pending f o r.pends r.may r.tells r.pending_chars last not_tag some g))
+    (λ o g. none_left (length r.before) s.part s r.pending f o r.pends r.may r.tells r.pending_chars last not_tag not_deep some g))
 
 -- a place at its begin, or a byte behind that
 pub stop_room : {x : Grammar} {s : Reader} {chars : List ℕ} (p : ℕ) (r : ReadsTo x s chars) → (s.part ≡ parts.Between → ⊥) → p ≤ s.begun + 1 → p ≤ length chars
 stop_room {x} {s} {chars} p r not_between low =
-    let some = some_pending (length r.before) s.part s.tag.bytes.items r.pending r.pends not_between in
+    let some = some_pending (length r.before) s.part s r.pending r.pends not_between in
     omega (arith, low, r.begun some, longer r.pending some, ap length r.parts_are, length-append r.before r.pending)
   where
     longer : (w : List ℕ) → w ≢ [] → 0 < length w
@@ -259,7 +261,7 @@ declared_room {x} {s} {chars} {known} p place r at here lies = by (pends_of r at
 -- and one in a document type declaration
 pub typed_room : {x : Grammar} {s : Reader} {chars : List ℕ} (p place : ℕ) (r : ReadsTo x s chars) → (s.part ≡ parts.Between → ⊥) → length chars ≡ place → ((most : ℕ) → s.begun ≤ most → place ≤ most → p ≤ most) → p ≤ length chars
 typed_room {x} {s} {chars} p place r not_between here lies =
-    lies (length chars) (begun_before r (some_pending (length r.before) s.part s.tag.bytes.items r.pending r.pends not_between)) (omega (arith, here))
+    lies (length chars) (begun_before r (some_pending (length r.before) s.part s r.pending r.pends not_between)) (omega (arith, here))
 
 -- what has begun is something else
 

@@ -1,25 +1,23 @@
--- Tags by their form: each has one, and one that is too long passes the limit.
-use Rattle.std.proofs.Common.{◌≡◌, inl, inr, ◌⊎◌, ℕ, suc, ◌<◌, ◌≤◌, Bool, true, false, List, [], ◌∷◌, ◌++◌, refl, ap, ◌∙◌, sym, subst, length, take, drop, arith, codes, append_assoc, length-append, length-drop, take-append-drop}
+-- Tags by their form: each has one.
+use Rattle.std.proofs.Common.{◌≡◌, inl, inr, ◌⊎◌, ℕ, ◌<◌, Bool, false, List, [], ◌∷◌, ◌++◌, refl, ap, ◌∙◌, sym, subst, length, arith, codes}
 use Rattle.std.proofs.lemmas.Bool.{true≢false}
 use Rattle.std.proofs.lemmas.List.{append_cancel_left}
 use Rattle.tc_base.specs.declared.reasons.Why.{Why}
-use Rattle.tc_model.specs.Names.{ExpandedName, IsChars}
+use Rattle.tc_model.specs.Names.{ExpandedName}
 use Rattle.tc_model.specs.RawTrees.{Attribute, Bound}
-use Rattle.tc_model.specs.XmlTextBytes.{FrontOf, after_white}
+use Rattle.tc_model.specs.XmlTextBytes.{after_white}
 use Rattle.tc_model.specs.XmlTextNames.{QualifiedName, QNameAt}
 use Rattle.tc_model.specs.XmlTextReferences.{ReferenceAt, decimal, hexadecimal, entity, other, ValueAt, closed, plain, QuotedAt}
 use Rattle.tc_model.specs.XmlTextReferences as r
 use Rattle.tc_model.specs.XmlTextScopes.{WrittenAttribute}
 use Rattle.tc_model.specs.XmlTextContent.{AttributesAt, no_more, attribute, TagAt}
-use Rattle.tc_model.specs.XmlTextRefusals.{Cause, TagRefuses, ElementRefuses, tag, inside}
+use Rattle.tc_model.specs.XmlTextRefusals.{TagRefuses}
 use Rattle.tc_model.proofs.XmlTextPhrases.{same_first, same_others, no_qname, qname_unique}
 use Rattle.tc_model.proofs.XmlTextUnique.{attributes_unique, no_empty_qname}
-use Rattle.tc_model.proofs.XmlTextRefused.{attributes_no_list, Begins, element_begins}
-use Rattle.tc_stream.specs.XmlTextTags.{WrittenElement, TagFormAt, EndTagAt, WholeTagAt, tag_length}
+use Rattle.tc_model.proofs.XmlTextRefused.{attributes_no_list}
+use Rattle.tc_stream.specs.XmlTextTags.{WrittenElement, TagFormAt, EndTagAt, WholeTagAt}
 use Rattle.tc_stream.specs.XmlTextTags as t
-use Rattle.tc_stream.specs.XmlTextMeasures.{longest_tag, FormAt, opening, closing, BeginsTag, IsLongTag}
-use Rattle.tc_stream.proofs.LengthLaws.{content_refused_within}
-use Rattle.tc_stream.proofs.CharacterLaws.{front_of_take}
+use Rattle.tc_stream.specs.Begins.{BeginsTag}
 
 -- a tag ends here, and this follows it
 pub data EndsAt : List ℕ → List ℕ → Type 0 where
@@ -137,67 +135,3 @@ form_begins a = begins_by a.opens a.names
 
 pub end_tag_begins : {n : QualifiedName} {bs after : List ℕ} → EndTagAt n bs after → BeginsTag bs
 end_tag_begins a = record { next = 0x2F; rest = a.rest; opens = a.opens; no_mark = λ h. omega (arith, h); no_instruction = λ h. omega (arith, h) }
-
--- tags that are too long
-
--- the bytes of a front of a part, and those behind it
-front_parts : (n : ℕ) (bs front : List ℕ) (f : FrontOf (take n bs) front) → front ++ (f.after ++ drop n bs) ≡ bs
-front_parts n bs front f = sym (append_assoc front f.after (drop n bs)) ∙ (ap (λ w. w ++ drop n bs) (sym f.parts) ∙ take-append-drop n bs)
-
--- what is refused in a tag of this form stands behind its end
-refused_behind : {total d : ℕ} {outer : List Bound} {bs at end after : List ℕ} {c : Cause} {e : WrittenElement}
-    → ElementRefuses total outer (suc d) bs c at → TagFormAt false total bs e end → EndsAt end after → length at ≤ length after
-refused_behind (tag k) f g = absurd (refused_no_form k f)
-refused_behind (inside a k) f g = omega (arith, content_refused_within k, ap length (ends_one g (open_end (form_unique f (form_of a)).1)))
-
-pub long_form : {total d : ℕ} {es : List WrittenElement} {outer : List Bound} {at end after : List ℕ} {e : WrittenElement} → IsChars at → TagFormAt false total at e end → EndsAt end after
-    → longest_tag < tag_length at after → IsLongTag total es outer (suc d) at
-long_form {total} {d} {es} {outer} {at} {end} {after} {e} chars f g long =
-    let (front, k) = front_of_take longest_tag at chars in
-    let behind : List ℕ = k.after ++ drop longest_tag at in
-    let parts : front ++ behind ≡ at = front_parts longest_tag at front k in
-    record {
-      begins = form_begins f;
-      long = omega (arith, long);
-      unended = λ r w. subst (λ z. longest_tag < tag_length at z) (whole_form_unique f g w) long;
-      begun = front;
-      is_begun = k;
-      goes_on = record {
-        more = behind;
-        after = after;
-        form = subst (λ z. FormAt true total es z after) (sym parts) (opening (form_loosened f) (as_ends g));
-        not_refused = λ cause place h.
-            let there : ElementRefuses total outer (suc d) at cause (place ++ behind) = subst (λ z. ElementRefuses total outer (suc d) z cause (place ++ behind)) parts (h behind) in
-            omega (arith, refused_behind there f g, length-append place behind, length-append k.after (drop longest_tag at), length-drop longest_tag at, long);
-      };
-    }
-
-pub no_refusal_at_end_tag : {total d : ℕ} {outer : List Bound} {bs at r : List ℕ} {c : Cause} → bs ≡ 0x3C ∷ 0x2F ∷ r → ElementRefuses total outer d bs c at → ⊥
-no_refusal_at_end_tag {total} {bs = bs} is k =
-    let b : Begins bs = element_begins k in no_qname 0x2F (omega arith) refl (subst (λ z. QNameAt z b.name b.past_name) (same_others (sym b.opens ∙ is)) b.names)
-
-pub long_end_tag : {total d : ℕ} {e : WrittenElement} {es : List WrittenElement} {outer : List Bound} {at after : List ℕ} → IsChars at → EndTagAt e.name at after
-    → longest_tag < tag_length at after → IsLongTag total (e ∷ es) outer d at
-long_end_tag {total} {d} {e} {es} {outer} {at} {after} chars f long =
-    let (front, k) = front_of_take longest_tag at chars in
-    let behind : List ℕ = k.after ++ drop longest_tag at in
-    let parts : front ++ behind ≡ at = front_parts longest_tag at front k in
-    let whole : WholeTagAt total at after = t.end_tag f in
-    record {
-      begins = end_tag_begins f;
-      long = omega (arith, long);
-      unended = λ r w. subst (λ z. longest_tag < tag_length at z) (whole_unique whole w) long;
-      begun = front;
-      is_begun = k;
-      goes_on = record {
-        more = behind;
-        after = after;
-        form = subst (λ z. FormAt true total (e ∷ es) z after) (sym parts) (closing f);
-        not_refused = λ cause place h.
-            no_refusal_at_end_tag f.opens (subst (λ z. ElementRefuses total outer d z cause (place ++ behind)) parts (h behind));
-      };
-    }
-
--- a tag that is too long doesn't end among the first bytes
-pub long_not_short : {total d : ℕ} {es : List WrittenElement} {outer : List Bound} {at after : List ℕ} → IsLongTag total es outer d at → WholeTagAt total at after → tag_length at after ≤ longest_tag → ⊥
-long_not_short {after = r} long w short = omega (arith, long.unended r w, short)

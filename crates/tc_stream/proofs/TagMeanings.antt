@@ -1,25 +1,23 @@
--- What comes of a tag that has a form and means nothing, and of one without a name with which the text ends; and a tag's form with other places.
-use Rattle.std.proofs.Common.{◌≡◌, ◌≢◌, ℕ, ◌<◌, ◌≤◌, ◌+◌, false, if◌then◌else◌, List, [], ◌∷◌, ◌++◌, refl, ap, ◌∙◌, sym, subst, length, arith, append-nil, length-append}
+-- What comes of a tag that has a form and means nothing; and a tag's form with other places.
+use Rattle.std.proofs.Common.{◌≡◌, ℕ, ◌<◌, ◌≤◌, ◌+◌, false, if◌then◌else◌, List, [], ◌∷◌, ◌++◌, refl, ap, ◌∙◌, sym, subst, length, arith, append-nil, length-append}
 use Rattle.std.specs.Prelude.{sum_by}
 use Rattle.tc_model.specs.Names.{ExpandedName, IsChars}
 use Rattle.tc_model.specs.RawTrees.{Attribute, Bound}
-use Rattle.tc_model.specs.XmlTextNames.{QualifiedName, QNameAt}
 use Rattle.tc_model.specs.XmlTextScopes.{WrittenAttribute, TagMeans, binding_of, is_declaration}
-use Rattle.tc_model.proofs.XmlTextPhrases.{same_first, same_others}
-use Rattle.tc_stream.specs.Cuts.{BeginsNoChar}
 use Rattle.tc_stream.specs.XmlTextTags.{WrittenElement, TagFormAt, declared_length, written_length, names_length, tag_length}
-use Rattle.tc_stream.specs.XmlTextMeasures.{longest_tag, most_names, BeginsTag}
+use Rattle.tc_stream.specs.XmlTextMeasures.{longest_tag, most_names}
 use Rattle.tc_stream.specs.Outcomes.{Outcome}
 use Rattle.tc_stream.specs.Goes.{Level, used, depth_left}
 use Rattle.tc_stream.specs.From.{open_in, StillComes}
 use Rattle.tc_stream.specs.Written.{bindings_of}
 use Rattle.tc_stream.specs.declared.phases.Phase.TheVariants as phases
 use Rattle.tc_stream.proofs.MeasureLaws.{tag_begins}
-use Rattle.tc_stream.proofs.TagLaws.{EndsAt, open_end, empty_end, form_unique, form_begins, refused_no_form, long_not_short, whole_of_form}
-use Rattle.tc_stream.proofs.OneOutcome.{AtTag, starts, stands_alone, ends, is_deep, is_refused, is_long, has_many, at_tag, closes_one, start_end, few_many}
+use Rattle.tc_stream.proofs.TagLaws.{EndsAt, open_end, empty_end, form_unique, form_begins, refused_no_form, whole_of_form}
+use Rattle.tc_stream.proofs.LongLaws.{long_not_short}
+use Rattle.tc_stream.proofs.OneOutcome.{AtTag, starts, stands_alone, ends, is_deep, is_refused, is_long, has_many, at_tag, start_end, few_many}
 use Rattle.tc_stream.proofs.TagExtendLaws.{KeptForm, SameBut, none_same, one_same, form_kept, lengths_same}
 use Rattle.tc_stream.proofs.OpenSteps.{form_same}
-use Rattle.tc_stream.proofs.NothingSteps.{nothing_step, last_step}
+use Rattle.tc_stream.proofs.NothingSteps.{nothing_step}
 
 -- a form with the places of a text of so many bytes
 
@@ -54,7 +52,7 @@ meaningless {outer = outer} f k low some few none (starts {scope = scope} {n = n
 meaningless {outer = outer} f k low some few none (stands_alone {scope = scope} {n = n} {x = x} z g u m h) =
     none scope n x (subst (λ w. TagMeans outer w.name w.attributes scope n x) (sym (form_unique f g).0) m)
 meaningless f k low some few none (ends c) = start_end f c
-meaningless f k low some few none (is_deep z i q l y) = omega (arith, some, z)
+meaningless f k low some few none (is_deep z i q y) = omega (arith, some, z)
 meaningless f k low some few none (is_refused z g l y) = refused_no_form g f
 meaningless f k low some few none (is_long long y) = long_not_short long (whole_of_form f k) low
 meaningless {ls = ls} f k low some few none (has_many z g l s w y) = few_many (used ls) f few g w
@@ -68,20 +66,3 @@ meaningless_step n item end r ls outer run e o chars some form k short few none 
     let there : TagFormAt false (n + length (item ++ f)) (item ++ f) e (end ++ f) = subst (λ z. TagFormAt false z (item ++ f) e (end ++ f)) (total_is n item f) (form_same f form) in
     let low : tag_length (item ++ f) f ≤ longest_tag = omega (arith, short, length-append item f) in
     meaningless there (stops_more f k) low some few none (at_tag (tag_begins (form_begins there)) g))
-
--- the text ends in a tag at which elements stand too deep, and in which no name stands
-
-nameless_there : {total : ℕ} {ls : List Level} {outer : List Bound} {run rest : List ℕ} {o : Outcome} (b : BeginsTag (0x3C ∷ rest)) → b.next ≢ 0x2F → length (0x3C ∷ rest) ≤ longest_tag
-    → ((name : QualifiedName) (past : List ℕ) → QNameAt rest name past → ⊥) → AtTag total ls outer run (0x3C ∷ rest) o → ⊥
-nameless_there b h low none (starts {e = e} z f u m k) = none e.name f.past_name (subst (λ w. QNameAt w e.name f.past_name) (same_others (sym f.opens)) f.names)
-nameless_there b h low none (stands_alone {e = e} z f u m k) = none e.name f.past_name (subst (λ w. QNameAt w e.name f.past_name) (same_others (sym f.opens)) f.names)
-nameless_there b h low none (ends (closes_one c s k)) = h (same_first (same_others (sym b.opens ∙ c.opens)))
-nameless_there b h low none (is_deep {past_name = p} {name = name} z i q l y) = none name p (subst (λ w. QNameAt w name p) (same_others (sym i)) q)
-nameless_there b h low none (is_refused z k l y) = none k.written k.past_name (subst (λ w. QNameAt w k.written k.past_name) (same_others (sym k.opens)) k.names)
-nameless_there b h low none (is_long long y) = omega (arith, low, long.long)
-nameless_there b h low none (has_many {e = e} z f k s w y) = none e.name f.past_name (subst (λ v. QNameAt v e.name f.past_name) (same_others (sym f.opens)) f.names)
-
-pub nameless_last : (n : ℕ) (rest r : List ℕ) (ls : List Level) (outer : List Bound) (run : List ℕ) (o : Outcome) (b : BeginsTag (0x3C ∷ rest)) → b.next ≢ 0x2F → IsChars (0x3C ∷ rest) → BeginsNoChar r
-    → length (0x3C ∷ rest) ≤ longest_tag → ((name : QualifiedName) (past : List ℕ) → QNameAt rest name past → ⊥) → StillComes n phases.Content (open_in ls outer run) ((0x3C ∷ rest) ++ r) o → ⊥
-nameless_last n rest r ls outer run o b h chars last low none =
-    last_step n (0x3C ∷ rest) r phases.Content (open_in ls outer run) o chars last (λ g. nameless_there b h low none (at_tag (tag_begins b) g))

@@ -1,5 +1,5 @@
 -- What the steps over a tag answer, by where its parts stand.
-use Rattle.std.proofs.Common.{◌≡◌, inl, inr, ◌⊎◌, ℕ, suc, ◌+◌, ◌-◌, ◌*◌, ◌<◌, ◌≤◌, Bool, true, false, cond, List, [], ◌∷◌, ◌++◌, refl, ap, ◌∙◌, sym, subst, length, take, drop, get_or, arith, codes, append_assoc, length-append, length-drop, IsTrue, IsUtf8, IsCharBoundary, take-append-drop}
+use Rattle.std.proofs.Common.{◌≡◌, inl, inr, ℕ, suc, ◌+◌, ◌-◌, ◌*◌, ◌<◌, ◌≤◌, Bool, true, false, cond, List, [], ◌∷◌, ◌++◌, refl, ap, ◌∙◌, sym, subst, length, take, drop, get_or, arith, codes, append_assoc, length-append, length-drop, IsTrue, IsUtf8, IsCharBoundary, take-append-drop}
 use Rattle.std.specs.Prelude.{encode_utf8_all}
 use Rattle.std.specs.List.{prefix_len}
 use Rattle.std.proofs.lemmas.Bool.{true≢false}
@@ -25,24 +25,21 @@ use Rattle.tc_stream.specs.declared.attributes.Attribute.{Attribute}
 use Rattle.tc_stream.specs.declared.names.WrittenName.{WrittenName}
 use Rattle.tc_stream.specs.declared.tags.Form.{Form}
 use Rattle.tc_stream.specs.declared.tags.NoForm.{NoForm}
-use Rattle.tc_stream.specs.declared.tags.NoForm.TheVariants.{Malformed, Short, Unsupported}
+use Rattle.tc_stream.specs.declared.tags.NoForm.TheVariants.{Malformed, Unsupported}
 use Rattle.tc_stream.proofs.FormLaws.{Attributes, attributes_begin, attributes_more, all_attributes, attributes_loosened, space_stands, value_within}
 use Rattle.tc_stream.proofs.ValueLaws.{reference_before}
 
 -- where nothing is said of a construct that isn't read
 pub stop_refuses : (e : NoForm) (P Q : Type 0) → IsStop e → P → Refuses e P Q
 stop_refuses (Malformed at) P Q s h = h
-stop_refuses (Short at) P Q s h = h
 stop_refuses (Unsupported at why) P Q s h = absurd s
 
 pub stop_stands : (total : ℕ) (e : NoForm) (P : Why → List ℕ → Type 0) → IsStop e → UnsupportedAt total e P
 stop_stands total (Malformed at) P s = tt
-stop_stands total (Short at) P s = tt
 stop_stands total (Unsupported at why) P s = absurd s
 
 pub stop_malformed : (e : NoForm) (P : Type 0) → IsStop e → P → OnMalformed e P
 stop_malformed (Malformed at) P s h = h
-stop_malformed (Short at) P s h = h
 stop_malformed (Unsupported at why) P s h = absurd s
 
 -- names
@@ -156,18 +153,6 @@ an_attribute text start behind equals rest total n value at quote w e q f v s = 
 
 pub quoted_of : (total : ℕ) (text rest value : List ℕ) (at quote : ℕ) → ValueRead total text at quote value rest → QuotedAt false text value rest
 quoted_of total text rest value at quote v = record { quote = quote; rest = v.inside; is_quote = v.is_quote; opens = v.opens; closes = v.closes }
-
--- a name isn't `xml:space` behind which an equals sign stands
-pub no_space_here : (behind equals : List ℕ) (b m : Bool) → EqualsAt behind equals → (b ≡ false) ⊎ ((m ≡ true) × (behind ≡ [])) → b ≡ false
-no_space_here behind equals b m f (inl e) = e
-no_space_here behind equals b m f (inr (g, e)) = absurd (none (sym (ap after_white e) ∙ f.sign))
-  where
-    none : {r : List ℕ} → [] ≡ 0x3D ∷ r → ⊥
-    none e = omega (arith, ap length e)
-
-pub not_space_here : (b m : Bool) (behind : List ℕ) → (b ≡ false) ⊎ ((m ≡ true) × (behind ≡ [])) → m ≡ false → false ≡ b
-not_space_here b m behind (inl e) f = sym e
-not_space_here b m behind (inr (g, e)) f = absurd (true≢false (sym g ∙ f))
 
 pub space_here : (total : ℕ) (text start behind : List ℕ) (name : QualifiedName) → length start ≤ total → BeginsWithWhite text → start ≡ after_white text → QNameAt start name behind → true ≡ same_written name xml_space
     → (left : List ℕ) × (total - length start + length left ≡ total) × AttributesRefuse text XmlSpace left

@@ -1,9 +1,9 @@
 -- How a reader goes on in a tag, and why it doesn't.
-use Rattle.std.proofs.Common.{◌≡◌, ◌≢◌, ℕ, ◌<◌, ◌≤◌, ◌+◌, ◌-◌, Bool, true, false, ◌==◌, if◌then◌else◌, List, [], ◌∷◌, ◌++◌, refl, ap, ◌∙◌, sym, subst, length, take, drop, get_or, arith, Option, None, Some, Result, Ok, Err, IsErrAnd, IsUtf8, IsCharBoundary, append_assoc, append-nil, length-append, take-append-drop, length-drop}
-use Rattle.std.specs.Prelude.{IfOk, IfErr, MatchBool, encode_utf8}
+use Rattle.std.proofs.Common.{◌≡◌, ◌≢◌, ℕ, ◌<◌, ◌≤◌, ◌+◌, ◌-◌, Bool, true, false, ◌==◌, if◌then◌else◌, List, [], ◌∷◌, ◌++◌, refl, ap, ◌∙◌, sym, subst, length, take, drop, get_or, arith, codes, Option, None, Some, Result, Ok, Err, IsErrAnd, IsUtf8, IsCharBoundary, append_assoc, append-nil, length-append, take-append-drop, length-drop}
+use Rattle.std.specs.Prelude.{IfOk, IfErr}
 use Rattle.std.proofs.Math.Seq.{take-append-add}
 use Rattle.std.proofs.lemmas.Bool.{eqb-true}
-use Rattle.std.proofs.lemmas.List.{length-take, length-take-le, take_rest}
+use Rattle.std.proofs.lemmas.List.{length-take-le, take-append-le, take_rest}
 use Rattle.std.proofs.lemmas.Result.{err_from_is_err_and}
 use Rattle.std.proofs.lemmas.Str.{IsCharBoundary-after_ascii}
 use Rattle.tc_model.specs.Grammars.{Grammar}
@@ -11,28 +11,32 @@ use Rattle.tc_model.specs.Names.{IsChars}
 use Rattle.tc_model.specs.RawTrees.{Bound}
 use Rattle.tc_model.specs.XmlTextBytes.{FrontOf, Lacks}
 use Rattle.tc_model.proofs.XmlTextChars.{cut_chars, no_chars}
-use Rattle.tc_stream.specs.XmlTextMeasures.{BeginsTag}
+use Rattle.tc_stream.specs.Begins.{BeginsTag}
+use Rattle.tc_stream.specs.XmlTextMeasures.{longest_tag, long_start, long_end}
 use Rattle.tc_stream.specs.Cuts.{BeginsNoChar}
-use Rattle.tc_stream.specs.Goes.{Level}
+use Rattle.tc_stream.specs.Goes.{Level, IsLong}
 use Rattle.tc_stream.specs.Faults.{IsFaultOf, IsFaultOfFront}
 use Rattle.tc_stream.specs.Keeps.{AreSteps, Keeps}
 use Rattle.tc_stream.specs.Reading.{ReadsOn}
 use Rattle.tc_stream.specs.Scans.{ended, quoted, tag_scan}
 use Rattle.tc_stream.specs.Stands.{IsReading, ReadsTo}
 use Rattle.tc_stream.specs.TagEnds.{TellsTag}
-use Rattle.tc_stream.specs.TagStands.{TagStands, IsStartTag, IsEndTag, TagTold, EndTold}
+use Rattle.tc_stream.specs.TagStands.{TagStands, IsStartTag, IsEndTag, TagTold}
 use Rattle.tc_stream.specs.declared.elements.Elements.{Elements}
 use Rattle.tc_stream.specs.declared.faults.StreamFault.{StreamFault}
+use Rattle.tc_stream.specs.declared.faults.StreamFault.TheVariants as faults
 use Rattle.tc_stream.specs.declared.names.Room.{Room}
 use Rattle.tc_stream.specs.declared.parts.Part.TheVariants as parts
 use Rattle.tc_stream.specs.declared.reader.Reader.{Reader}
 use Rattle.tc_stream.specs.declared.tag_ends.TagEnd.TheVariants as tags
 use Rattle.tc_stream.proofs.EncodedLaws.{free_of}
-use Rattle.tc_stream.proofs.LongFaults.{FullFront, free_inside, free_kept, full_end_fault, full_fault, full_front, started_open, started_whole, two_bytes}
-use Rattle.tc_stream.proofs.StandsLaws.{KeptEnd, free_join, front_more, front_whole, begins_prefix, kept_end, kept_start, scan_on, stands_end, stands_start}
+use Rattle.tc_stream.proofs.KeepsLaws.{has_room}
+use Rattle.tc_stream.proofs.LongLaws.{free_front, free_lack, starts_kept}
+use Rattle.tc_stream.proofs.LongSteps.{long_step}
+use Rattle.tc_stream.proofs.StandsLaws.{KeptEnd, KeptStart, free_join, front_more, front_whole, kept_end, kept_start, scan_on, stands_end, stands_start}
 use Rattle.tc_stream.proofs.RefusedLaws.{ended_is, no_end}
 use Rattle.tc_stream.proofs.TagEndLaws.{then_tag, tag_more}
-use Rattle.tc_stream.proofs.TagFaults.{ended_tag_fault}
+use Rattle.tc_stream.proofs.TagFaults.{alone, ended_tag_fault, long_fault}
 
 -- results
 
@@ -130,77 +134,101 @@ cut_behind_tag text quote count utf8 low e = let (v, is) = ends_with quote (take
 
 -- a start tag or an empty-element tag of which too much has come
 
-begins_more : {kept : List ℕ} (more : List ℕ) (b : BeginsTag kept) → (a : BeginsTag (kept ++ more)) × (a.next ≡ b.next)
-begins_more more b = (record { next = b.next; rest = b.rest ++ more; opens = ap (λ w. w ++ more) b.opens; no_mark = b.no_mark; no_instruction = b.no_instruction }, refl)
+-- its measure passes, whatever follows
+passes : {x : Grammar} {e : Elements} {place : ℕ} {item chars : List ℕ} (t : TagStands x e place item chars) → IsLong t.ls item → IsFaultOfFront chars faults.TagTooLong
+passes {item = item} t long =
+    long_fault t item [] (length t.before + longest_tag) (alone item) (λ r o. long_step (length t.before) item r t.ls t.scope t.run o t.item_chars long)
 
-pub kept_start_fault : (x : Grammar) (s : Reader) (chars text now tag : List ℕ) (most : ℕ) (q next : Option ℕ) (fault : StreamFault) → s.part ≡ parts.Tag q → tag_scan q text ≡ quoted next → IsChars text → ReadsTo x s chars
-    → most ≡ 65536 → now ≡ take most (s.tag.bytes.items ++ text) → most < length (s.tag.bytes.items ++ text) → FrontOf now tag → TagTold s.elements fault tag s.begun true → IsFaultOfFront (chars ++ text) fault
-kept_start_fault x s chars text now tag most q next fault is scan h r size bytes long front told =
+-- bytes that are scanned to no end, or to one at the last of them
+quoted_before : (q : Option ℕ) (w v r : List ℕ) → tag_scan None (w ++ v) ≡ quoted q → tag_scan None w ≡ ended r → ⊥
+quoted_before q w v r e f = no_end (sym e ∙ (tag_more None w v ∙ ap (λ y. then_tag y v) f))
+
+ended_before : (w v r : List ℕ) → 0 < length v → tag_scan None (w ++ v) ≡ ended [] → tag_scan None w ≡ ended r → ⊥
+ended_before w v r some e f = omega (arith, some, ap length (ended_is (sym e ∙ (tag_more None w v ∙ ap (λ y. then_tag y v) f))), length-append r v)
+
+too_much : {most : ℕ} (s : Reader) (text : List ℕ) → most ≡ 65536 → most < length s.tag.bytes.items + length text → longest_tag < length (s.tag.bytes.items ++ text)
+too_much s text size long = let many : 65536 < length s.tag.bytes.items + length text = omega (arith, size, long) in omega (arith, many, length-append s.tag.bytes.items text)
+
+long_kept : {x : Grammar} {s : Reader} {chars : List ℕ} {q : Option ℕ} (text : List ℕ) (ls : List Level) (scope : List Bound) → KeptStart x s chars q → Keeps s.elements ls scope → longest_tag < length (s.tag.bytes.items ++ text)
+    → ((r : List ℕ) → tag_scan None (take longest_tag (s.tag.bytes.items ++ text)) ≡ ended r → ⊥) → IsLong ls (s.tag.bytes.items ++ text)
+long_kept {s = s} text ls scope k keeps long none = let o = starts_kept text k.opens in long_start o.char o.rest (has_room s.elements keeps k.room) o.opens o.starts long none
+
+pub kept_start_fault : (x : Grammar) (s : Reader) (chars text : List ℕ) (most : ℕ) (q next : Option ℕ) → s.part ≡ parts.Tag q → tag_scan q text ≡ quoted next → IsChars text → ReadsTo x s chars
+    → most ≡ 65536 → most < length s.tag.bytes.items + length text → IsFaultOfFront (chars ++ text) faults.TagTooLong
+kept_start_fault x s chars text most q next is scan h r size long =
     let k = kept_start x s chars q r is in
     let t = stands_start x s chars text q k is h in
-    let f = full_front (s.tag.bytes.items ++ text) tag t.item_chars (subst (λ m. m < length (s.tag.bytes.items ++ text)) size long) (subst (λ z. FrontOf z tag) (bytes ∙ ap (λ m. take m (s.tag.bytes.items ++ text)) size) front) in
-    let b = begins_more text k.begins in
-    full_fault t tag f (started_open f b.0 (λ e. k.apart (sym b.1 ∙ e)) next (scan_on s.tag.bytes.items text q k.scanned ∙ scan)) fault told
+    let item = s.tag.bytes.items ++ text in
+    let open_still : tag_scan None (take longest_tag item ++ drop longest_tag item) ≡ quoted next = ap (tag_scan None) (take-append-drop longest_tag item) ∙ (scan_on s.tag.bytes.items text q k.scanned ∙ scan) in
+    passes t (long_kept text t.ls t.scope k t.keeps (too_much s text size long) (λ r e. quoted_before next (take longest_tag item) (drop longest_tag item) r open_still e))
 
-pub whole_start_fault : (x : Grammar) (s : Reader) (chars text now tag : List ℕ) (most : ℕ) (q : Option ℕ) (fault : StreamFault) → s.part ≡ parts.Tag q → tag_scan q text ≡ ended [] → IsChars text → ReadsTo x s chars
-    → most ≡ 65536 → now ≡ take most (s.tag.bytes.items ++ text) → most < length (s.tag.bytes.items ++ text) → FrontOf now tag → TagTold s.elements fault tag s.begun true → IsFaultOfFront (chars ++ text) fault
-whole_start_fault x s chars text now tag most q fault is scan h r size bytes long front told =
+pub whole_start_fault : (x : Grammar) (s : Reader) (chars text : List ℕ) (most : ℕ) (q : Option ℕ) → s.part ≡ parts.Tag q → tag_scan q text ≡ ended [] → IsChars text → ReadsTo x s chars
+    → most ≡ 65536 → most < length s.tag.bytes.items + length text → IsFaultOfFront (chars ++ text) faults.TagTooLong
+whole_start_fault x s chars text most q is scan h r size long =
     let k = kept_start x s chars q r is in
     let t = stands_start x s chars text q k is h in
-    let f = full_front (s.tag.bytes.items ++ text) tag t.item_chars (subst (λ m. m < length (s.tag.bytes.items ++ text)) size long) (subst (λ z. FrontOf z tag) (bytes ∙ ap (λ m. take m (s.tag.bytes.items ++ text)) size) front) in
-    let b = begins_more text k.begins in
-    full_fault t tag f (started_whole f b.0 (λ e. k.apart (sym b.1 ∙ e)) (scan_on s.tag.bytes.items text q k.scanned ∙ scan)) fault told
+    let item = s.tag.bytes.items ++ text in
+    let many = too_much s text size long in
+    let some : 0 < length (drop longest_tag item) = omega (arith, many, length-drop longest_tag item) in
+    let ends_last : tag_scan None (take longest_tag item ++ drop longest_tag item) ≡ ended [] = ap (tag_scan None) (take-append-drop longest_tag item) ∙ (scan_on s.tag.bytes.items text q k.scanned ∙ scan) in
+    passes t (long_kept text t.ls t.scope k t.keeps many (λ r e. ended_before (take longest_tag item) (drop longest_tag item) r some ends_last e))
 
 -- and one that is whole
 pub whole_start : (x : Grammar) (s : Reader) (chars text now : List ℕ) (q : Option ℕ) → s.part ≡ parts.Tag q → tag_scan q text ≡ ended [] → IsChars text → ReadsTo x s chars → now ≡ s.tag.bytes.items ++ text
-    → IsStartTag now × TagStands x s.elements s.begun now (chars ++ text)
+    → IsStartTag now × TagStands x s.elements s.begun now (chars ++ text) × (length s.elements.levels.items < 2000)
 whole_start x s chars text now q is scan h r bytes =
     let k = kept_start x s chars q r is in
-    let b = begins_more text k.begins in
-    let w : IsStartTag (s.tag.bytes.items ++ text) = record { begins = b.0; apart = λ e. k.apart (sym b.1 ∙ e); ends = scan_on s.tag.bytes.items text q k.scanned ∙ scan } in
-    (subst IsStartTag (sym bytes) w, subst (λ z. TagStands x s.elements s.begun z (chars ++ text)) (sym bytes) (stands_start x s chars text q k is h))
+    let o = starts_kept text k.opens in
+    let w : IsStartTag (s.tag.bytes.items ++ text) = record { char = o.char; rest = o.rest; opens = o.opens; starts = o.starts; ends = scan_on s.tag.bytes.items text q k.scanned ∙ scan } in
+    (subst IsStartTag (sym bytes) w, subst (λ z. TagStands x s.elements s.begun z (chars ++ text)) (sym bytes) (stands_start x s chars text q k is h), k.room)
 
 -- the text ends in one
-pub kept_start_ended : (x : Grammar) (s : Reader) (chars r tag : List ℕ) (q : Option ℕ) (is_long : Bool) (fault : StreamFault) → is_long ≡ false → ReadsTo x s chars → s.part ≡ parts.Tag q → BeginsNoChar r → FrontOf s.tag.bytes.items tag
-    → TagTold s.elements fault tag s.begun is_long → IsFaultOf (chars ++ r) fault
-kept_start_ended x s chars r tag q is_long fault short reads is last front told =
+pub kept_start_ended : (x : Grammar) (s : Reader) (chars r tag : List ℕ) (q : Option ℕ) (fault : StreamFault) → ReadsTo x s chars → s.part ≡ parts.Tag q → BeginsNoChar r → FrontOf s.tag.bytes.items tag
+    → TagTold fault tag s.begun → IsFaultOf (chars ++ r) fault
+kept_start_ended x s chars r tag q fault reads is last front told =
     let k = kept_start x s chars q reads is in
     let t = stands_start x s chars [] q k is no_chars in
-    let b = begins_more [] k.begins in
     let same : tag ≡ s.tag.bytes.items ++ [] = front_whole (subst IsChars k.same k.reads.pending_chars) front ∙ sym (append-nil s.tag.bytes.items) in
-    let here : TagTold s.elements fault (s.tag.bytes.items ++ []) s.begun false = subst (λ z. TagTold s.elements fault z s.begun false) same (subst (λ z. TagTold s.elements fault tag s.begun z) short told) in
+    let here : TagTold fault (s.tag.bytes.items ++ []) s.begun = subst (λ z. TagTold fault z s.begun) same told in
     subst (λ z. IsFaultOf (z ++ r) fault) (append-nil chars)
-    (ended_tag_fault t b.0 (λ e. k.apart (sym b.1 ∙ e)) q (scan_on s.tag.bytes.items [] q k.scanned) (subst (λ z. length z ≤ 65536) (sym (append-nil s.tag.bytes.items)) k.low) r last fault here)
+    (ended_tag_fault t (starts_kept [] k.opens) q (scan_on s.tag.bytes.items [] q k.scanned) (subst (λ z. length z ≤ 65536) (sym (append-nil s.tag.bytes.items)) k.low) (has_room s.elements t.keeps k.room) r last fault here)
 
 -- the same of end tags
 
-end_fault_by : (x : Grammar) (s : Reader) (chars text now tag : List ℕ) (most : ℕ) (fault : StreamFault) (k : KeptEnd x s chars) → s.part ≡ parts.EndTag → IsChars text → ((f : FullFront (s.tag.bytes.items ++ text) tag) → free_of 0x3E tag ≡ true)
-    → most ≡ 65536 → now ≡ take most (s.tag.bytes.items ++ text) → most < length (s.tag.bytes.items ++ text) → FrontOf now tag
-    → ((l : Level) (ls : List Level) (scope : List Bound) → Keeps s.elements (l ∷ ls) scope → EndTold fault tag l.written.name s.begun true) → IsFaultOfFront (chars ++ text) fault
-end_fault_by x s chars text now tag most fault k is h free size bytes long front told =
-    let both = stands_end x s chars text k is h in
-    let f = full_front (s.tag.bytes.items ++ text) tag both.0.item_chars (subst (λ m. m < length (s.tag.bytes.items ++ text)) size long) (subst (λ z. FrontOf z tag) (bytes ∙ ap (λ m. take m (s.tag.bytes.items ++ text)) size) front) in
-    let b = begins_more text k.begins in
-    let a = begins_prefix tag (encode_utf8 f.char ++ f.more) b.0 (f.parts ∙ append_assoc tag (encode_utf8 f.char) f.more) (two_bytes f.full) in
-    full_end_fault both.0 tag f a.0 (a.1 ∙ (b.1 ∙ k.slash)) (free f) both.1 fault told
+begins_more : {kept : List ℕ} (more : List ℕ) (b : BeginsTag kept) → (a : BeginsTag (kept ++ more)) × (a.next ≡ b.next)
+begins_more more b = (record { next = b.next; rest = b.rest ++ more; opens = ap (λ w. w ++ more) b.opens; no_mark = b.no_mark; no_instruction = b.no_instruction }, refl)
 
-pub kept_end_fault : (x : Grammar) (s : Reader) (chars text now tag : List ℕ) (most : ℕ) (fault : StreamFault) → s.part ≡ parts.EndTag → Lacks (0x3E ∷ []) text → IsChars text → ReadsTo x s chars
-    → most ≡ 65536 → now ≡ take most (s.tag.bytes.items ++ text) → most < length (s.tag.bytes.items ++ text) → FrontOf now tag
-    → ((l : Level) (ls : List Level) (scope : List Bound) → Keeps s.elements (l ∷ ls) scope → EndTold fault tag l.written.name s.begun true) → IsFaultOfFront (chars ++ text) fault
-kept_end_fault x s chars text now tag most fault is lacks h r size bytes long front told =
+long_end_in : {at rest : List ℕ} (ls : List Level) → ls ≢ [] → at ≡ codes "</" ++ rest → longest_tag < length at → free_of 0x3E (take longest_tag at) ≡ true → IsLong ls at
+long_end_in [] some opens long free = absurd (some refl)
+long_end_in {at = at} {rest = rest} (l ∷ ls) some opens long free = long_end rest opens long (free_lack (take longest_tag at) free)
+
+end_fault_by : (x : Grammar) (s : Reader) (chars text : List ℕ) (k : KeptEnd x s chars) → s.part ≡ parts.EndTag → IsChars text → longest_tag < length (s.tag.bytes.items ++ text)
+    → free_of 0x3E (take longest_tag (s.tag.bytes.items ++ text)) ≡ true → IsFaultOfFront (chars ++ text) faults.TagTooLong
+end_fault_by x s chars text k is h long free =
+    let both = stands_end x s chars text k is h in passes both.0 (long_end_in both.0.ls both.1 (ap (λ w. w ++ text) k.opens) long free)
+
+free_taken : (w : List ℕ) → free_of 0x3E w ≡ true → free_of 0x3E (take longest_tag w) ≡ true
+free_taken w free = free_front (take longest_tag w) (drop longest_tag w) (ap (free_of 0x3E) (take-append-drop longest_tag w) ∙ free)
+
+pub kept_end_fault : (x : Grammar) (s : Reader) (chars text : List ℕ) (most : ℕ) → s.part ≡ parts.EndTag → Lacks (0x3E ∷ []) text → IsChars text → ReadsTo x s chars
+    → most ≡ 65536 → most < length s.tag.bytes.items + length text → IsFaultOfFront (chars ++ text) faults.TagTooLong
+kept_end_fault x s chars text most is lacks h r size long =
     let k = kept_end x s chars r is in
-    end_fault_by x s chars text now tag most fault k is h (λ f. free_kept f (free_join s.tag.bytes.items text k.lacks lacks)) size bytes long front told
+    end_fault_by x s chars text k is h (too_much s text size long) (free_taken (s.tag.bytes.items ++ text) (free_join s.tag.bytes.items text k.lacks lacks))
 
 inside_of : (kept text front : List ℕ) → text ≡ front ++ 0x3E ∷ [] → kept ++ text ≡ (kept ++ front) ++ 0x3E ∷ []
 inside_of kept text front is = ap (λ z. kept ++ z) is ∙ sym (append_assoc kept front (0x3E ∷ []))
 
-pub whole_end_long : (x : Grammar) (s : Reader) (chars text now tag front : List ℕ) (most : ℕ) (fault : StreamFault) → s.part ≡ parts.EndTag → text ≡ front ++ 0x3E ∷ [] → Lacks (0x3E ∷ []) front → IsChars text → ReadsTo x s chars
-    → most ≡ 65536 → now ≡ take most (s.tag.bytes.items ++ text) → most < length (s.tag.bytes.items ++ text) → FrontOf now tag
-    → ((l : Level) (ls : List Level) (scope : List Bound) → Keeps s.elements (l ∷ ls) scope → EndTold fault tag l.written.name s.begun true) → IsFaultOfFront (chars ++ text) fault
-whole_end_long x s chars text now tag front most fault is ends lacks h r size bytes long first told =
+pub whole_end_long : (x : Grammar) (s : Reader) (chars text front : List ℕ) (most : ℕ) → s.part ≡ parts.EndTag → text ≡ front ++ 0x3E ∷ [] → Lacks (0x3E ∷ []) front → IsChars text → ReadsTo x s chars
+    → most ≡ 65536 → most < length s.tag.bytes.items + length text → IsFaultOfFront (chars ++ text) faults.TagTooLong
+whole_end_long x s chars text front most is ends lacks h r size long =
     let k = kept_end x s chars r is in
-    end_fault_by x s chars text now tag most fault k is h
-    (λ f. free_inside f (s.tag.bytes.items ++ front) (inside_of s.tag.bytes.items text front ends) (free_join s.tag.bytes.items front k.lacks lacks)) size bytes long first told
+    let many = too_much s text size long in
+    let inside = s.tag.bytes.items ++ front in
+    let same = inside_of s.tag.bytes.items text front ends in
+    let low : longest_tag ≤ length inside = omega (arith, many, ap length same, length-append inside (0x3E ∷ [])) in
+    let first : take longest_tag (s.tag.bytes.items ++ text) ≡ take longest_tag inside = ap (take longest_tag) same ∙ take-append-le longest_tag inside (0x3E ∷ []) low in
+    end_fault_by x s chars text k is h many (ap (free_of 0x3E) first ∙ free_taken inside (free_join s.tag.bytes.items front k.lacks lacks))
 
 pub record WholeEnd (x : Grammar) (s : Reader) (now chars : List ℕ) : Type 0 where
   pub is_end : IsEndTag now
@@ -263,15 +291,6 @@ failed r e P h q = let p = err_from_is_err_and r h in subst (λ w. IfErr w P) (s
 
 pub front_short : {w f : List ℕ} (n : ℕ) → FrontOf w f → length w ≤ n → length f ≤ n
 front_short {w} {f} n k low = omega (arith, low, ap length k.parts, length-append f k.after)
-
--- as much of bytes as there is room for
-pub put_front : (b : Bool) (old mid new bytes front : List ℕ) (most room : ℕ) (now : ℕ) → mid ≡ old → now ≡ most → most < length old + length bytes → length mid + room ≡ now → front ≡ take room bytes
-    → MatchBool b (new ≡ mid ++ front) ((new ≡ mid) × (now < length mid + length front)) → (new ≡ take most (old ++ bytes)) × (most < length (old ++ bytes))
-put_front true old mid new bytes front most room now same size long sum first put =
-    let reach : length old + room ≡ most = omega (arith, sum, size, ap length same) in
-    let whole : new ≡ take most (old ++ bytes) = put ∙ (ap (λ z. z ++ front) same ∙ (ap (λ z. old ++ z) first ∙ (sym (take-append-add old bytes room) ∙ ap (λ n. take n (old ++ bytes)) reach))) in
-    (whole, omega (arith, long, length-append old bytes))
-put_front false old mid new bytes front most room now same size long sum first put = absurd (omega (arith, put.1, sum, ap length first, length-take room bytes))
 
 -- a tag stands where nothing of what it stands by changes
 pub stands_moved : {x : Grammar} {old : Elements} {place : ℕ} {item chars : List ℕ} (t : TagStands x old place item chars) (new : Elements) → ((ls : List Level) (scope : List Bound) → Keeps old ls scope → Keeps new ls scope)

@@ -16,7 +16,8 @@ use Rattle.tc_stream.specs.Outcomes.{Outcome}
 use Rattle.tc_stream.specs.Goes.{Level, used, depth_left, with_text, closed, Fits, Goes, start_tag, empty_tag, end_tag, GoesBehind}
 use Rattle.tc_stream.specs.Scans.{ended, tag_scan}
 use Rattle.tc_stream.proofs.MeasureLaws.{tag_of, tag_begins}
-use Rattle.tc_stream.proofs.TagLaws.{EndsAt, open_end, empty_end, form_unique, end_tag_unique, no_form_at_end_tag, refused_no_form, form_begins, end_tag_begins, long_not_short}
+use Rattle.tc_stream.proofs.TagLaws.{EndsAt, open_end, empty_end, form_unique, end_tag_unique, no_form_at_end_tag, refused_no_form, form_begins, end_tag_begins}
+use Rattle.tc_stream.proofs.LongLaws.{long_not_short}
 use Rattle.tc_stream.proofs.OneOutcome.{opened, AtTag, starts, stands_alone, ends, is_deep, is_refused, is_long, has_many, at_tag, closes_one, open_empty, start_end, few_many, start_moved, goes_one}
 use Rattle.tc_stream.proofs.TagEndLaws.{then_tag, tag_scanned, tag_more}
 use Rattle.tc_stream.proofs.TagExtendLaws.{begins_as, KeptForm}
@@ -34,7 +35,7 @@ start_inner : {total : ℕ} {ls : List Level} {outer : List Bound} {run bs : Lis
 start_inner z f b m (starts z' f' b' m' h) = let same = tag_unique (tag_of f m) (tag_of f' m') in start_moved (form_unique f f').0 same.same_name same.same_scope (same_others same.same_after) h
 start_inner z f b m (stands_alone z' f' b' m' h) = absurd (open_empty f f')
 start_inner z f b m (ends c) = absurd (start_end f c)
-start_inner z f b m (is_deep z' i q n' y) = absurd (omega (arith, z, z'))
+start_inner z f b m (is_deep z' i q y) = absurd (omega (arith, z, z'))
 start_inner z f b m (is_refused z' k n' y) = absurd (refused_no_form k f)
 start_inner z f b m (is_long l y) = absurd (long_not_short l (t.start_tag f) b.short)
 start_inner {ls = ls} z f b m (has_many z' f' k s w y) = absurd (few_many (used ls) f b.few f' w)
@@ -55,7 +56,7 @@ empty_inner {total} {ls} {outer} {run} {o = o} {after = r} {n = n} z f b m (stan
     let moved : GoesBehind total (closed n none (with_text run ls)) outer r' o = subst (λ z. GoesBehind total (closed z none (with_text run ls)) outer r' o) (sym same.same_name) h in
     subst (λ z. GoesBehind total (closed n none (with_text run ls)) outer z o) (sym (append_cancel_left (codes "/>") r r' same.same_after)) moved
 empty_inner z f b m (ends c) = absurd (start_end f c)
-empty_inner z f b m (is_deep z' i q n' y) = absurd (omega (arith, z, z'))
+empty_inner z f b m (is_deep z' i q y) = absurd (omega (arith, z, z'))
 empty_inner z f b m (is_refused z' k n' y) = absurd (refused_no_form k f)
 empty_inner z f b m (is_long l y) = absurd (long_not_short l (t.empty_tag f) b.short)
 empty_inner {ls = ls} z f b m (has_many z' f' k s w y) = absurd (few_many (used ls) f b.few f' w)
@@ -73,9 +74,9 @@ end_inner f s (starts z' f' b' m' h) = absurd (no_form_at_end_tag f.opens f')
 end_inner f s (stands_alone z' f' b' m' h) = absurd (no_form_at_end_tag f.opens f')
 end_inner {total} {l} {ls} {run = run} {o = o} f s (ends (closes_one {after = r'} f' s' h)) =
     subst (λ z. GoesBehind total (closed l.name (beside l.kids (kept run none)) ls) l.outer z o) (sym (end_tag_unique f f').1) h
-end_inner f s (is_deep {past_name = p} {name = n} z' i q n' y) = absurd (no_qname 0x2F (omega arith) refl (subst (λ z. QNameAt z n p) (same_others (sym i ∙ f.opens)) q))
+end_inner f s (is_deep {past_name = p} {name = n} z' i q y) = absurd (no_qname 0x2F (omega arith) refl (subst (λ z. QNameAt z n p) (same_others (sym i ∙ f.opens)) q))
 end_inner f s (is_refused z' k n' y) = absurd (no_qname 0x2F (omega arith) refl (subst (λ z. QNameAt z k.written k.past_name) (same_others (sym k.opens ∙ f.opens)) k.names))
-end_inner f s (is_long l y) = absurd (long_not_short l (t.end_tag f) s)
+end_inner {total} f s (is_long l y) = absurd (long_not_short {total = total} l (t.end_tag f) s)
 end_inner f s (has_many z' f' k s' w y) = absurd (no_form_at_end_tag f.opens f')
 
 pub over_end_tag : (total : ℕ) (l : Level) (ls : List Level) (scope : List Bound) (run bs : List ℕ) (o : Outcome) {after : List ℕ} → EndTagAt l.written.name bs after → tag_length bs after ≤ longest_tag

@@ -161,6 +161,14 @@ pub no_piece : {o : Bool} {q : ℕ} {bs : List ℕ} → prefix_len (is_plain_wit
 no_piece e h piece rest (pieces.plain a) = omega (arith, a.some, e)
 no_piece e h piece rest (pieces.reference a) = h piece rest a
 
+-- of what is malformed
+pub no_reference_there : (e : NoReference) (bs : List ℕ) → e ≡ no.Malformed → Lacks e bs → (s after : List ℕ) → ReferenceAt true bs s after → ⊥
+no_reference_there no.Malformed bs e h = h
+no_reference_there no.OtherEntity bs e h = absurd (differ e)
+  where
+    differ : no.OtherEntity ≡ no.Malformed → ⊥
+    differ e = cc
+
 pub lacks_reference : (e : NoReference) (bs : List ℕ) → Lacks e bs → (s after : List ℕ) → ReferenceAt false bs s after → ⊥
 lacks_reference no.Malformed bs h s after a = h s after (lift a)
   where

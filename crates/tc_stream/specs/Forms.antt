@@ -11,7 +11,7 @@ use Rattle.tc_stream.specs.XmlTextTags.{WrittenElement, TagFormAt}
 use Rattle.tc_stream.specs.declared.names.WrittenName.{WrittenName}
 use Rattle.tc_stream.specs.declared.tags.Form.{Form}
 use Rattle.tc_stream.specs.declared.tags.NoForm.{NoForm}
-use Rattle.tc_stream.specs.declared.tags.NoForm.TheVariants.{Malformed, Short, Unsupported}
+use Rattle.tc_stream.specs.declared.tags.NoForm.TheVariants.{Malformed, Unsupported}
 
 -- one attribute after white space, which is not `xml:space`
 pub record AttributeAt (others : Bool) (total : ℕ) (bs : List ℕ) (a : WrittenAttribute) (after : List ℕ) : Type 0 where
@@ -48,36 +48,20 @@ pub record FormRead (tag : List ℕ) (f : Form) (e : WrittenElement) : Type 0 wh
 -- nothing is said of a construct that isn't read
 abbrev pub IsStop : NoForm → Type 0
 IsStop (Malformed at) = Unit {0}
-IsStop (Short at) = Unit {0}
 IsStop (Unsupported at why) = ⊥
 
--- Malformed and Short are said only where `any` holds, that there is no reading, not even with references to other entities; Unsupported only where `strict`
--- holds, that there is none without them.
+-- Malformed is said only where `any` holds, that there is no reading, not even with references to other entities; Unsupported only where `strict` holds, that
+-- there is none without them.
 abbrev pub Refuses : NoForm → Type 0 → Type 0 → Type 0
 Refuses (Malformed at) any strict = any
-Refuses (Short at) any strict = any
 Refuses (Unsupported at why) any strict = strict
 
 -- Unsupported is said only of a construct that `stands` at this place of a tag of so many bytes.
 abbrev pub UnsupportedAt : ℕ → NoForm → (Why → List ℕ → Type 0) → Type 0
 UnsupportedAt total (Malformed at) stands = Unit {0}
-UnsupportedAt total (Short at) stands = Unit {0}
 UnsupportedAt total (Unsupported at why) stands = (left : List ℕ) × (at + length left ≡ total) × stands why left
 
--- This holds where Malformed or Short is said.
+-- This holds where Malformed is said.
 abbrev pub OnMalformed : NoForm → Type 0 → Type 0
 OnMalformed (Malformed at) P = P
-OnMalformed (Short at) P = P
 OnMalformed (Unsupported at why) P = Unit {0}
-
--- This holds where Short is said.
-abbrev pub OnShort : NoForm → Type 0 → Type 0
-OnShort (Malformed at) P = Unit {0}
-OnShort (Short at) P = P
-OnShort (Unsupported at why) P = Unit {0}
-
--- This holds where Malformed is said.
-abbrev pub OnBroken : NoForm → Type 0 → Type 0
-OnBroken (Malformed at) P = P
-OnBroken (Short at) P = Unit {0}
-OnBroken (Unsupported at why) P = Unit {0}

@@ -64,8 +64,8 @@ pub record Fits (ls : List Level) (e : WrittenElement) (bs after : List ℕ) : T
   pub few : names_length e + used ls ≤ most_names
 
 -- the tag that begins here passes its limit
-abbrev pub IsLong : ℕ → List Level → List Bound → List ℕ → Type 0
-IsLong total ls outer bs = IsLongTag total (all_written ls) outer (depth_left ls) bs
+abbrev pub IsLong : List Level → List ℕ → Type 0
+IsLong ls bs = IsLongTag longest_tag (all_written ls) (depth_left ls) bs
 
 -- what is left of the text of `total` bytes, from the root element or from content on: the elements that are open, what is in scope, the characters since the
 -- last tag, and what comes of it
@@ -93,13 +93,13 @@ mutual
     entity : {l : Level} {ls : List Level} {scope : List Bound} {run bs : List ℕ}
         → OtherEntityAt bs → Goes total (l ∷ ls) scope run bs (refused (unsupported EntityReference) (place_of total bs))
     deep : {ls : List Level} {outer : List Bound} {run rest past_name : List ℕ} {name : QualifiedName}
-        → depth_left ls ≡ 0 → QNameAt rest name past_name → (IsLong total ls outer (0x3C ∷ rest) → ⊥)
+        → depth_left ls ≡ 0 → QNameAt rest name past_name
         → Goes total ls outer run (0x3C ∷ rest) (refused too_deep (place_of total (0x3C ∷ rest)))
     construct : {ls : List Level} {outer : List Bound} {run bs at : List ℕ} {why : Why}
-        → 0 < depth_left ls → TagRefuses bs why at → (IsLong total ls outer bs → ⊥)
+        → 0 < depth_left ls → TagRefuses bs why at → (IsLong ls bs → ⊥)
         → Goes total ls outer run bs (refused (unsupported why) (place_of total at))
     long_tag : {ls : List Level} {outer : List Bound} {run bs : List ℕ}
-        → IsLong total ls outer bs → Goes total ls outer run bs (passed tag (place_of total bs + longest_tag))
+        → IsLong ls bs → Goes total ls outer run bs (passed tag (place_of total bs + longest_tag))
     many_names : {ls : List Level} {outer : List Bound} {run bs end after : List ℕ} {e : WrittenElement}
         → 0 < depth_left ls → TagFormAt false total bs e end → (end ≡ 0x3E ∷ after) ⊎ (end ≡ codes "/>" ++ after) → tag_length bs after ≤ longest_tag
         → most_names < names_length e + used ls → Goes total ls outer run bs (passed names (place_of total after))

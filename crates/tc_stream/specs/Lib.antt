@@ -1,3 +1,4 @@
+pub mod Begins
 pub mod XmlTextTags
 pub mod XmlTextMeasures
 pub mod Outcomes
@@ -10,7 +11,6 @@ pub mod Faults
 pub mod Declarations
 pub mod Doctypes
 pub mod References
-pub mod Begun
 pub mod Kept
 pub mod Declaring
 pub mod Typing
@@ -30,7 +30,6 @@ pub mod Bindings
 pub mod Values
 pub mod Written
 pub mod Forms
-pub mod Missing
 pub mod Keeps
 pub mod Reading
 pub mod Stands

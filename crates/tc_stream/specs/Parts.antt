@@ -21,6 +21,7 @@ use Rattle.tc_stream.specs.declared.parts.Part.{Part}
 use Rattle.tc_stream.specs.declared.parts.Part.TheVariants as parts
 use Rattle.tc_stream.specs.declared.phases.Phase.{Phase}
 use Rattle.tc_stream.specs.declared.phases.Phase.TheVariants as phases
+use Rattle.tc_stream.specs.declared.reader.Reader.{Reader}
 
 -- a run of character data that may go on
 pub record IsData (brackets : ℕ) (bytes : List ℕ) : Type 0 where
@@ -37,8 +38,9 @@ IsTargetSoFar (Some name) bytes = (bytes ≡ name) × IsNcName name
 abbrev pub IsOtherTarget : List ℕ → Type 0
 IsOtherTarget name = IsNcName name × IsFalse (str_eq_ignore_ascii_case name (codes "xml"))
 
--- These characters, which stand behind so many bytes, stand before a place where this has begun; `kept` are the bytes that are kept of a tag.
-abbrev pub Pends : ℕ → Part → List ℕ → List ℕ → Type 0
+-- These characters, which stand behind so many bytes, stand before a place where this has begun, by what a reader keeps: the bytes of a tag, and how many elements
+-- are open.
+abbrev pub Pends : ℕ → Part → Reader → List ℕ → Type 0
 Pends n parts.Between kept pending = pending ≡ []
 Pends n (parts.Data brackets) kept pending = IsData brackets pending
 Pends n parts.Markup kept pending = pending ≡ codes "<"
@@ -58,8 +60,13 @@ Pends n (parts.Declaration known) kept pending =
 Pends n (parts.Doctype known) kept pending =
     (cs : List ℕ) × (pending ≡ codes "<!DOCTYPE" ++ encode_utf8_all cs) × (doctypes.doctype_scan doctypes.begun cs ≡ doctypes.typing (typing_of known))
 Pends n (parts.Tag quote) kept pending =
-    (pending ≡ kept) × ((c : ℕ) × (rest : List ℕ) × (kept ≡ 0x3C ∷ (encode_utf8 c ++ rest)) × (is_ncname_start c ≡ true)) × (tag_scan None kept ≡ quoted quote) × (length kept ≤ 65536)
-Pends n parts.EndTag kept pending = (pending ≡ kept) × ((rest : List ℕ) × (kept ≡ codes "</" ++ rest)) × Lacks (0x3E ∷ []) kept × (length kept ≤ 65536)
+    let bytes = kept.tag.bytes.items in
+    (pending ≡ bytes) × ((c : ℕ) × (rest : List ℕ) × (bytes ≡ 0x3C ∷ (encode_utf8 c ++ rest)) × (is_ncname_start c ≡ true)) × (tag_scan None bytes ≡ quoted quote) × (length bytes ≤ 65536)
+    × (length kept.elements.levels.items < 2000)
+Pends n parts.EndTag kept pending =
+    let bytes = kept.tag.bytes.items in (pending ≡ bytes) × ((rest : List ℕ) × (bytes ≡ codes "</" ++ rest)) × Lacks (0x3E ∷ []) bytes × (length bytes ≤ 65536)
+Pends n parts.DeepName kept pending = (name : List ℕ) × (pending ≡ 0x3C ∷ name) × IsNcName name × (length kept.elements.levels.items ≡ 2000)
+Pends n parts.DeepPrefix kept pending = (prefix : List ℕ) × (pending ≡ 0x3C ∷ (prefix ++ 0x3A ∷ [])) × IsNcName prefix × (length kept.elements.levels.items ≡ 2000)
 
 -- where in a document this may have begun: a byte order mark never is behind it, and an XML declaration only behind what begins as one
 abbrev pub MayPend : Phase → Part → Type 0
@@ -78,6 +85,8 @@ MayPend phase (parts.Declaration known) = phase ≡ phases.Front
 MayPend phase (parts.Doctype known) = phase ≡ phases.Prolog
 MayPend phase (parts.Tag quote) = (phase ≢ phases.Mark) × (phase ≢ phases.End)
 MayPend phase parts.EndTag = phase ≡ phases.Content
+MayPend phase parts.DeepName = phase ≡ phases.Content
+MayPend phase parts.DeepPrefix = phase ≡ phases.Content
 
 -- what has begun behind the whole of a mark
 abbrev pub begun_by : Mark → Part
@@ -95,4 +104,6 @@ is_by_char (parts.Target target) = true
 is_by_char parts.Targeted = true
 is_by_char (parts.Declaration known) = true
 is_by_char (parts.Doctype known) = true
+is_by_char parts.DeepName = true
+is_by_char parts.DeepPrefix = true
 is_by_char _ = false

@@ -44,7 +44,7 @@ pub record ReadsTo (x : Grammar) (s : Reader) (chars : List ℕ) : Type 0 where
   pub before_chars : IsChars before
   pub pending_chars : IsChars pending
   pub begun : pending ≢ [] → s.begun ≡ length before
-  pub pends : Pends (length before) s.part s.tag.bytes.items pending
+  pub pends : Pends (length before) s.part s pending
   pub may : MayPend s.phase s.part
   pub standing : Standing
   pub tells : Tells x pending s.part s.elements s.phase standing

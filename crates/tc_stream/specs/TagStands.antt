@@ -1,25 +1,20 @@
 -- A tag that is kept, at the root element or in content: where it stands, what follows it, and what is told of one that isn't read.
-use Rattle.std.specs.Prelude.{◌≡◌, ◌≢◌, ◌<◌, ◌≤◌, ◌+◌, ◌↔◌, ◌==◌, ℕ, Bool, true, false, not, List, [], ◌∷◌, ◌++◌, Option, None, length, take, codes, IsTrue, IsFalse}
+use Rattle.std.specs.Prelude.{◌≡◌, ◌<◌, ◌≤◌, ◌+◌, ◌↔◌, ◌==◌, ℕ, true, false, not, List, [], ◌∷◌, ◌++◌, Option, None, length, take, codes, encode_utf8, IsTrue}
 use Rattle.std.specs.List.{list_all}
-use Rattle.tc_base.specs.declared.Place.{Place}
 use Rattle.tc_base.specs.declared.reasons.Why.{Why}
 use Rattle.tc_model.specs.Grammars.{Grammar}
-use Rattle.tc_model.specs.Names.{IsChars}
+use Rattle.tc_model.specs.Names.{IsChars, is_ncname_start}
 use Rattle.tc_model.specs.RawTrees.{Bound}
-use Rattle.tc_model.specs.XmlTextBytes.{Lacks}
-use Rattle.tc_model.specs.XmlTextNames.{QualifiedName, QNameAt}
 use Rattle.tc_model.specs.XmlTextRefusals.{TagRefuses}
-use Rattle.tc_stream.specs.Begun.{TagBegun, IsNamed, IsUncertain}
-use Rattle.tc_stream.specs.Forms.{FormRead, IsStop, Refuses, UnsupportedAt, OnMalformed, OnShort, OnBroken}
+use Rattle.tc_stream.specs.Forms.{FormRead, Refuses, UnsupportedAt, OnMalformed}
 use Rattle.tc_stream.specs.From.{Standing, open_in, StillComes}
+use Rattle.tc_stream.specs.Begins.{BeginsTag}
 use Rattle.tc_stream.specs.Goes.{Level}
 use Rattle.tc_stream.specs.Keeps.{AreSteps, Keeps}
-use Rattle.tc_stream.specs.Missing.{IsUnclosed, NoFront, NoName}
 use Rattle.tc_stream.specs.Outcomes.{Outcome, Comes}
 use Rattle.tc_stream.specs.Scans.{ended, quoted, tag_scan}
 use Rattle.tc_stream.specs.Stands.{Tells}
-use Rattle.tc_stream.specs.XmlTextMeasures.{BeginsTag}
-use Rattle.tc_stream.specs.XmlTextTags.{WrittenElement, TagFormAt, EndTagAt}
+use Rattle.tc_stream.specs.XmlTextTags.{WrittenElement, TagFormAt}
 use Rattle.tc_stream.specs.declared.elements.Elements.{Elements}
 use Rattle.tc_stream.specs.declared.elements.NoElement.{NoElement}
 use Rattle.tc_stream.specs.declared.elements.NoElement.TheVariants as elements
@@ -56,8 +51,10 @@ pub record TagStands (x : Grammar) (e : Elements) (place : ℕ) (item chars : Li
 
 -- a start tag or an empty-element tag, or an end tag, up to its `>`
 pub record IsStartTag (item : List ℕ) : Type 0 where
-  pub begins : BeginsTag item
-  pub apart : begins.next ≢ 0x2F
+  pub char : ℕ
+  pub rest : List ℕ
+  pub opens : item ≡ 0x3C ∷ (encode_utf8 char ++ rest)
+  pub starts : is_ncname_start char ≡ true
   pub ends : tag_scan None item ≡ ended []
 
 pub record IsEndTag (item : List ℕ) : Type 0 where
@@ -77,13 +74,11 @@ pub record StandsBehind (x : Grammar) (e : Elements) (chars : List ℕ) : Type 0
   pub outside : e.levels.items ≡ [] → phase ≡ phases.End
   pub comes : (r : List ℕ) (o : Outcome) → Comes (chars ++ r) o ↔ StillComes (length chars) phase standing r o
 
--- the fault of a tag of so many bytes that stands at a place and isn't read for a reason, where it may be too long
-abbrev pub TellsFault : StreamFault → NoForm → ℕ → ℕ → Bool → Type 0
-TellsFault (faults.Malformed p) (stops.Malformed at) place count is_long = p.0 ≤ place + count
-TellsFault (faults.Malformed p) (stops.Short at) place count is_long = (p.0 ≤ place + count) × (is_long ≡ false)
-TellsFault faults.TagTooLong (stops.Short at) place count is_long = is_long ≡ true
-TellsFault (faults.Unsupported p reason) (stops.Unsupported at why) place count is_long = (reason ≡ why) × (at ≤ count → p.0 ≡ place + at)
-TellsFault _ _ place count is_long = ⊥
+-- the fault of a tag of so many bytes that stands at a place and isn't read for a reason
+abbrev pub TellsFault : StreamFault → NoForm → ℕ → ℕ → Type 0
+TellsFault (faults.Malformed p) (stops.Malformed at) place count = p.0 ≤ place + count
+TellsFault (faults.Unsupported p reason) (stops.Unsupported at why) place count = (reason ≡ why) × (at ≤ count → p.0 ≡ place + at)
+TellsFault _ _ place count = ⊥
 
 -- the fault of a tag at a place whose element isn't gone into
 abbrev pub TellsNoElement : StreamFault → NoElement → ℕ → Type 0
@@ -91,39 +86,14 @@ TellsNoElement faults.NamesTooLong elements.NamesTooLong place = Unit {0}
 TellsNoElement (faults.Malformed p) elements.Malformed place = p.0 ≡ place
 TellsNoElement _ _ place = ⊥
 
--- what is told of a start tag or an empty-element tag that has no form, where it may go on or not
-pub record NoFormTold (tag : List ℕ) (may_go_on : Bool) (stop : NoForm) : Type 0 where
+-- what is told of a start tag or an empty-element tag that has no form
+pub record NoFormTold (tag : List ℕ) (stop : NoForm) : Type 0 where
   pub none_open : Refuses stop ((e : WrittenElement) → TagFormAt true (length tag) tag e (codes ">") → ⊥) ((e : WrittenElement) → TagFormAt false (length tag) tag e (codes ">") → ⊥)
   pub none_empty : Refuses stop ((e : WrittenElement) → TagFormAt true (length tag) tag e (codes "/>") → ⊥) ((e : WrittenElement) → TagFormAt false (length tag) tag e (codes "/>") → ⊥)
   pub stands : UnsupportedAt (length tag) stop (TagRefuses tag)
-  pub malformed : IsFalse may_go_on → OnMalformed stop ((why : Why) (at : List ℕ) → TagRefuses tag why at → ⊥)
-  pub begun : (rest : List ℕ) → tag ≡ 0x3C ∷ rest → OnShort stop (TagBegun tag)
-  pub refused : IsTrue may_go_on → IsChars tag → UnsupportedAt (length tag) stop (λ why at. (more : List ℕ) → TagRefuses (tag ++ more) why (at ++ more))
-  pub missing : (rest : List ℕ) → tag ≡ 0x3C ∷ rest → IsChars tag → IsUnclosed tag → OnBroken stop (NoFront tag)
-
--- and of an end tag that is none of the innermost element, whose name is this one
-pub record NoEndTold (tag : List ℕ) (name : QualifiedName) (stop : NoForm) : Type 0 where
-  pub is_stop : IsStop stop
-  pub none : EndTagAt name tag [] → ⊥
-  pub begun : OnShort stop ((more : List ℕ) × EndTagAt name (tag ++ more) [])
-  pub missing : (rest : List ℕ) → tag ≡ 0x3C ∷ rest → Lacks (0x3E ∷ []) tag → OnBroken stop ((more after : List ℕ) → EndTagAt name (tag ++ more) after → ⊥)
-
--- a tag at which elements stand too deep: its name decides
-pub data DeepTold (fault : StreamFault) (tag : List ℕ) (place : ℕ) (is_long : Bool) : Type 0 where
-  too_deep : (p : Place) → fault ≡ faults.TooDeep p → p.0 ≡ place → ((rest : List ℕ) → tag ≡ 0x3C ∷ rest → (name : QualifiedName) × (past : List ℕ) × QNameAt rest name past)
-      → ((rest : List ℕ) → tag ≡ 0x3C ∷ rest → IsTrue is_long → IsNamed rest) → DeepTold fault tag place is_long
-  unnamed : (stop : NoForm) → TellsFault fault stop place (length tag) is_long → IsStop stop
-      → ((rest : List ℕ) → tag ≡ 0x3C ∷ rest → IsFalse is_long → (name : QualifiedName) (past : List ℕ) → QNameAt rest name past → ⊥)
-      → ((rest : List ℕ) → tag ≡ 0x3C ∷ rest → OnShort stop (IsUncertain rest))
-      → ((rest : List ℕ) → tag ≡ 0x3C ∷ rest → IsChars rest → OnBroken stop (NoName rest)) → DeepTold fault tag place is_long
+  pub malformed : OnMalformed stop ((why : Why) (at : List ℕ) → TagRefuses tag why at → ⊥)
 
 -- the fault of a start tag or an empty-element tag
-pub data TagTold (e : Elements) (fault : StreamFault) (tag : List ℕ) (place : ℕ) (is_long : Bool) : Type 0 where
-  deep : length e.levels.items ≡ 2000 → DeepTold fault tag place is_long → TagTold e fault tag place is_long
-  formless : length e.levels.items < 2000 → (stop : NoForm) → TellsFault fault stop place (length tag) is_long → NoFormTold tag is_long stop → TagTold e fault tag place is_long
-  whole : {f : Form} {w : WrittenElement} → FormRead tag f w → TagTold e fault tag place is_long
-
--- and of an end tag
-pub data EndTold (fault : StreamFault) (tag : List ℕ) (name : QualifiedName) (place : ℕ) (is_long : Bool) : Type 0 where
-  no_end : (stop : NoForm) → TellsFault fault stop place (length tag) is_long → NoEndTold tag name stop → EndTold fault tag name place is_long
-  an_end : EndTagAt name tag [] → EndTold fault tag name place is_long
+pub data TagTold (fault : StreamFault) (tag : List ℕ) (place : ℕ) : Type 0 where
+  formless : (stop : NoForm) → TellsFault fault stop place (length tag) → NoFormTold tag stop → TagTold fault tag place
+  whole : {f : Form} {w : WrittenElement} → FormRead tag f w → TagTold fault tag place

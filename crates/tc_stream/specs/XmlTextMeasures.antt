@@ -1,11 +1,54 @@
 -- Two measures of an XML text that is read in pieces: how long its tags are, and how many bytes the names of its open elements have. What one piece
--- after another can show stands here: where a measure passes its limit, and that nothing passes.
-use Rattle.std.specs.Prelude.{◌≡◌, ◌≢◌, ◌<◌, ◌≤◌, ◌⊎◌, ℕ, suc, ◌+◌, Bool, false, true, List, ◌∷◌, ◌++◌, length, take, codes}
+-- after another can show stands here: where a measure passes its limit, and that nothing passes. The limits are parameters.
+use Rattle.std.specs.Prelude.{◌≡◌, ◌<◌, ◌≤◌, ◌⊎◌, ℕ, suc, ◌+◌, false, true, List, [], ◌∷◌, ◌++◌, None, length, take, codes, encode_utf8}
+use Rattle.tc_model.specs.Names.{is_ncname_start}
 use Rattle.tc_model.specs.RawTrees.{RawTrees, Bound}
-use Rattle.tc_model.specs.XmlTextBytes.{FrontOf, place_of}
+use Rattle.tc_model.specs.XmlTextBytes.{FrontOf, Lacks, place_of}
 use Rattle.tc_model.specs.XmlText.{XmlText}
-use Rattle.tc_model.specs.XmlTextRefusals.{Cause, ElementRefuses}
-use Rattle.tc_stream.specs.XmlTextTags.{WrittenElement, TagFormAt, EndTagAt, WholeTagAt, ComesTo, tag_length, open_names}
+use Rattle.tc_stream.specs.Scans.{ended, tag_scan}
+use Rattle.tc_stream.specs.XmlTextTags.{WrittenElement, TagFormAt, WholeTagAt, ComesTo, tag_length, open_names}
+
+-- A good text: one of the form of XML, with its raw tree, in which no tag and no names of open elements pass their limits. An element whose tag is
+-- just read is open, an empty one too.
+pub record IsGoodWithin (longest most : ℕ) (bytes : List ℕ) (tree : RawTrees) : Type 0 where
+  pub reads : XmlText bytes tree
+  pub tags : (elements : List WrittenElement) (scope : List Bound) (deepest : ℕ) (at after : List ℕ)
+      → ComesTo bytes elements scope deepest at → WholeTagAt (length bytes) at after → tag_length at after ≤ longest
+  pub names : (element : WrittenElement) (elements : List WrittenElement) (scope : List Bound) (deepest : ℕ) (at after : List ℕ)
+      → ComesTo bytes elements scope deepest at → TagFormAt false (length bytes) at element after → open_names (element ∷ elements) ≤ most
+
+pub data Measure : Type 0 where
+  tag : Measure
+  names : Measure
+
+-- The tag that begins here has too many bytes, where these elements are open and so many may still stand within one another: its end doesn't stand among the
+-- first of them, whatever else these are. A start tag or an empty-element tag begins with a `<` and the first character of a name (XML, 3.1, [40], [44]; Namespaces,
+-- 3, [4]), and ends at the first `>` out of quotes. An end tag begins with `</` in an element, and ends at the first `>`, as no quotes stand in one (XML, 3.1, [42]).
+pub data IsLongTag (longest : ℕ) : List WrittenElement → ℕ → List ℕ → Type 0 where
+  long_start : {elements : List WrittenElement} {deepest : ℕ} {at : List ℕ} (c : ℕ) (rest : List ℕ) → 0 < deepest → at ≡ 0x3C ∷ (encode_utf8 c ++ rest) → is_ncname_start c ≡ true
+      → longest < length at → ((after : List ℕ) → tag_scan None (take longest at) ≡ ended after → ⊥) → IsLongTag longest elements deepest at
+  long_end : {element : WrittenElement} {elements : List WrittenElement} {deepest : ℕ} {at : List ℕ} (rest : List ℕ) → at ≡ codes "</" ++ rest
+      → longest < length at → Lacks (0x3E ∷ []) (take longest at) → IsLongTag longest (element ∷ elements) deepest at
+
+-- A measure passes its limit in these characters, and where: a tag at the byte that is one too many; names behind the tag with which they pass, whatever
+-- these names mean. Where elements stand too deep no tag is measured that would stand deeper.
+pub data PassesWithin (longest most : ℕ) (front : List ℕ) : Measure → ℕ → Type 0 where
+  long_tag : {elements : List WrittenElement} {outer : List Bound} {deepest : ℕ} {at : List ℕ}
+      → ComesTo front elements outer deepest at → IsLongTag longest elements deepest at
+      → PassesWithin longest most front tag (place_of (length front) at + longest)
+  many_names : {element : WrittenElement} {elements : List WrittenElement} {outer : List Bound} {deepest : ℕ} {at end after : List ℕ}
+      → ComesTo front elements outer (suc deepest) at → TagFormAt false (length front) at element end
+      → (end ≡ 0x3E ∷ after) ⊎ (end ≡ codes "/>" ++ after) → most < open_names (element ∷ elements)
+      → PassesWithin longest most front names (place_of (length front) after)
+
+-- this measure passes first among the characters at the front of the bytes, and at this place
+pub record PassesFirstWithin (longest most : ℕ) (bytes : List ℕ) (measure : Measure) (place : ℕ) : Type 0 where
+  pub front : List ℕ
+  pub is_front : FrontOf bytes front
+  pub passes : PassesWithin longest most front measure place
+  pub first : (other : Measure) (elsewhere : ℕ) → PassesWithin longest most front other elsewhere → place ≤ elsewhere
+
+-- The limits of a document that comes in pieces
 
 -- the most bytes of a tag
 abbrev pub longest_tag : ℕ
@@ -15,69 +58,14 @@ longest_tag = 65536
 abbrev pub most_names : ℕ
 most_names = 65536
 
--- A good text: one of the form of XML, with its raw tree, in which no tag and no names of open elements pass their limit. An element whose tag is
--- just read is open, an empty one too.
-pub record IsGood (bytes : List ℕ) (tree : RawTrees) : Type 0 where
-  pub reads : XmlText bytes tree
-  pub tags : (elements : List WrittenElement) (scope : List Bound) (deepest : ℕ) (at after : List ℕ)
-      → ComesTo bytes elements scope deepest at → WholeTagAt (length bytes) at after → tag_length at after ≤ longest_tag
-  pub names : (element : WrittenElement) (elements : List WrittenElement) (scope : List Bound) (deepest : ℕ) (at after : List ℕ)
-      → ComesTo bytes elements scope deepest at → TagFormAt false (length bytes) at element after → open_names (element ∷ elements) ≤ most_names
+abbrev pub IsGood : List ℕ → RawTrees → Type 0
+IsGood bytes tree = IsGoodWithin longest_tag most_names bytes tree
 
-pub data Measure : Type 0 where
-  tag : Measure
-  names : Measure
+abbrev pub PassesAt : List ℕ → Measure → ℕ → Type 0
+PassesAt front measure place = PassesWithin longest_tag most_names front measure place
 
--- a tag that may stand where these elements are open, by its form, and what follows its `>`: a start tag, an empty-element tag, or the end tag of the innermost one
-pub data FormAt (others : Bool) (total : ℕ) : List WrittenElement → List ℕ → List ℕ → Type 0 where
-  opening : {elements : List WrittenElement} {element : WrittenElement} {bs end after : List ℕ} → TagFormAt others total bs element end
-      → (end ≡ 0x3E ∷ after) ⊎ (end ≡ codes "/>" ++ after) → FormAt others total elements bs after
-  closing : {element : WrittenElement} {elements : List WrittenElement} {bs after : List ℕ} → EndTagAt element.name bs after
-      → FormAt others total (element ∷ elements) bs after
-
--- These first characters of a tag may go on: some bytes more give it the form of one, and no construct in it is refused whatever bytes follow. References to entities
--- other than the predefined ones are read here, since such a name may end as a predefined one.
-pub record GoesOn (total : ℕ) (elements : List WrittenElement) (outer : List Bound) (deepest : ℕ) (begun : List ℕ) : Type 0 where
-  pub more : List ℕ
-  pub after : List ℕ
-  pub form : FormAt true total elements (begun ++ more) after
-  pub not_refused : (cause : Cause) (at : List ℕ) → ((r : List ℕ) → ElementRefuses total outer deepest (begun ++ r) cause (at ++ r)) → ⊥
-
--- a tag begins here, and no comment, processing instruction or CDATA section (XML, 3, [39]; 3.1, [43])
-pub record BeginsTag (bs : List ℕ) : Type 0 where
-  pub next : ℕ
-  pub rest : List ℕ
-  pub opens : bs ≡ 0x3C ∷ (next ∷ rest)
-  pub no_mark : next ≢ 0x21
-  pub no_instruction : next ≢ 0x3F
-
--- The tag that begins here has too many bytes: its end doesn't stand among the first of them, and by these it may go on. Of a character of which a part alone
--- stands there nothing is asked.
-pub record IsLongTag (total : ℕ) (elements : List WrittenElement) (outer : List Bound) (deepest : ℕ) (at : List ℕ) : Type 0 where
-  pub begins : BeginsTag at
-  pub long : longest_tag < length at
-  pub unended : (after : List ℕ) → WholeTagAt total at after → longest_tag < tag_length at after
-  pub begun : List ℕ
-  pub is_begun : FrontOf (take longest_tag at) begun
-  pub goes_on : GoesOn total elements outer deepest begun
-
--- A measure passes its limit in these characters, and where: a tag at the byte that is one too many; names behind the tag with which they pass, whatever
--- these names mean.
-pub data PassesAt (front : List ℕ) : Measure → ℕ → Type 0 where
-  long_tag : {elements : List WrittenElement} {outer : List Bound} {deepest : ℕ} {at : List ℕ}
-      → ComesTo front elements outer deepest at → IsLongTag (length front) elements outer deepest at
-      → PassesAt front tag (place_of (length front) at + longest_tag)
-  many_names : {element : WrittenElement} {elements : List WrittenElement} {outer : List Bound} {deepest : ℕ} {at end after : List ℕ}
-      → ComesTo front elements outer (suc deepest) at → TagFormAt false (length front) at element end
-      → (end ≡ 0x3E ∷ after) ⊎ (end ≡ codes "/>" ++ after) → most_names < open_names (element ∷ elements)
-      → PassesAt front names (place_of (length front) after)
-
--- this measure passes first among the characters at the front of the bytes, and at this place
-pub record PassesFirst (bytes : List ℕ) (measure : Measure) (place : ℕ) : Type 0 where
-  pub front : List ℕ
-  pub is_front : FrontOf bytes front
-  pub passes : PassesAt front measure place
-  pub first : (other : Measure) (elsewhere : ℕ) → PassesAt front other elsewhere → place ≤ elsewhere
+abbrev pub PassesFirst : List ℕ → Measure → ℕ → Type 0
+PassesFirst bytes measure place = PassesFirstWithin longest_tag most_names bytes measure place
 
 -- no measure passes there
 abbrev pub IsWithinMeasures : List ℕ → Type 0

@@ -75,6 +75,8 @@ impl Reader<'_> {
             Part::Targeted => self.read_targeted(next),
             Part::Declaration(known) => self.read_declaration(known, next, place),
             Part::Doctype(known) => self.read_doctype(known, next, place),
+            Part::DeepName => self.read_deep_name(next),
+            Part::DeepPrefix => self.read_deep_local(next),
             _ => Ok(()),
         }
     }

@@ -13,10 +13,8 @@ ghost use Rattle.tc_model.specs.XmlTextNames.{QNameAt, QualifiedName};
 ghost use Rattle.tc_model.specs.XmlTextRefusals.{TagRefuses};
 ghost use Rattle.tc_model.specs.XmlTextScopes.{first_scope};
 ghost use Rattle.tc_steps.specs.Led.{IsStarted};
-ghost use Rattle.tc_stream.specs.Begun.{TagBegun};
-ghost use Rattle.tc_stream.specs.Forms.{FormRead, IsNameAt, OnBroken, OnMalformed, OnShort, Refuses, UnsupportedAt};
+ghost use Rattle.tc_stream.specs.Forms.{FormRead, IsNameAt, OnMalformed, Refuses, UnsupportedAt};
 ghost use Rattle.tc_stream.specs.Goes as goes;
-ghost use Rattle.tc_stream.specs.Missing.{IsUnclosed, NoFront};
 ghost use Rattle.tc_stream.specs.Scoped.{chains_in};
 ghost use Rattle.tc_stream.specs.Written.{AreWritten};
 ghost use Rattle.tc_stream.specs.XmlTextTags.{TagFormAt, WrittenElement, written_length};
@@ -105,7 +103,7 @@ impl<'h> Elements<'h> {
 
     /// A start tag or an empty-element tag by its form, whose attributes are left in the table; nothing else of what is
     /// kept changes.
-    pub(crate) fn form(&mut self, tag: &str, may_go_on: bool) -> Result<Form, NoForm>
+    pub(crate) fn form(&mut self, tag: &str) -> Result<Form, NoForm>
         requires { length tag.now ≤ LONGEST_TAG }
         ensures names { self.new.rooms.names ≡ self.old.rooms.names }
         ensures scopes { self.new.rooms.scopes ≡ self.old.rooms.scopes }
@@ -121,12 +119,9 @@ impl<'h> Elements<'h> {
             ((e : WrittenElement) → TagFormAt true (length tag.now) tag.now e (codes "/>") → ⊥)
             ((e : WrittenElement) → TagFormAt false (length tag.now) tag.now e (codes "/>") → ⊥)) }
         ensures stands { IfErr result (λ x. UnsupportedAt (length tag.now) x (TagRefuses tag.now)) }
-        ensures malformed { IsFalse may_go_on → IfErr result (λ x. OnMalformed x ((why : Reason) (at : List ℕ) → TagRefuses tag.now why at → ⊥)) }
-        ensures begun { (rest : List ℕ) → tag.now ≡ 0x3C ∷ rest → IfErr result (λ x. OnShort x (TagBegun tag.now)) }
-        ensures refused { IsTrue may_go_on → IsChars tag.now → IfErr result (λ x. UnsupportedAt (length tag.now) x (λ why at. (more : List ℕ) → TagRefuses (tag.now ++ more) why (at ++ more))) }
-        ensures missing { (rest : List ℕ) → tag.now ≡ 0x3C ∷ rest → IsChars tag.now → IsUnclosed tag.now → IfErr result (λ x. OnBroken x (NoFront tag.now)) }
+        ensures malformed { IfErr result (λ x. OnMalformed x ((why : Reason) (at : List ℕ) → TagRefuses tag.now why at → ⊥)) }
     {
-        form_of(tag, &mut self.rooms.attributes, may_go_on)
+        form_of(tag, &mut self.rooms.attributes)
     }
 
     /// Whether no element may stand within those that are open.

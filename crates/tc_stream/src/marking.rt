@@ -13,7 +13,8 @@ use crate::phases::Phase;
 use crate::reader::Reader;
 use crate::reading::malformed;
 use crate::values::push_char;
-use tc_scan::is_ncname_start;
+use tc_base::Place;
+use tc_scan::{is_ncname_char, is_ncname_start};
 
 /// Keeps the first characters of a tag alone: its `<` and this one.
 fn keep_first(tag: &mut Room, next: char)
@@ -78,7 +79,8 @@ impl Reader<'_> {
         }
     }
 
-    /// Begins a start tag or an empty-element tag with the first character of its name, where one may stand.
+    /// Begins a start tag or an empty-element tag with the first character of its name, where one may stand. Where
+    /// elements stand too deep only its name is read.
     fn begin_tag(&mut self, next: char) -> Result<(), StreamFault>
         requires ready { IsReading self.old }
         requires part { self.old.part ≡ Part.Markup }
@@ -94,9 +96,43 @@ impl Reader<'_> {
         if !is_ncname_start(next) {
             return Err(malformed(self.no_tag()));
         }
+        if self.elements.is_full() {
+            self.part = Part::DeepName;
+            return Ok(());
+        }
         keep_first(&mut self.tag, next);
         self.part = Part::Tag(None);
         Ok(())
+    }
+
+    /// Reads on in the name of a start tag with which elements stand too deep: a name is one of any length.
+    pub(crate) fn read_deep_name(&mut self, next: char) -> Result<(), StreamFault>
+        requires ready { IsReading self.old }
+        requires part { self.old.part ≡ Part.DeepName }
+        ensures ok { OnOk result (ReadsChar self.old self.new next) }
+        ensures fault { IfErr result (λ e. FaultsAtChar self.old next e) }
+    {
+        if is_ncname_char(next) {
+            return Ok(());
+        }
+        if next == ':' {
+            self.part = Part::DeepPrefix;
+            return Ok(());
+        }
+        Err(StreamFault::TooDeep(Place(self.begun)))
+    }
+
+    /// Reads the first character behind the prefix of such a name.
+    pub(crate) fn read_deep_local(&mut self, next: char) -> Result<(), StreamFault>
+        requires ready { IsReading self.old }
+        requires part { self.old.part ≡ Part.DeepPrefix }
+        ensures ok { OnOk result (ReadsChar self.old self.new next) }
+        ensures fault { IfErr result (λ e. FaultsAtChar self.old next e) }
+    {
+        if is_ncname_start(next) {
+            return Err(StreamFault::TooDeep(Place(self.begun)));
+        }
+        Err(malformed(self.begun))
     }
 
     /// Where reading stops at a `<` with which nothing begins: before the root element it is read as that of a tag.

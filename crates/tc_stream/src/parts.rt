@@ -96,4 +96,8 @@ pub(crate) enum Part {
     Tag(Option<u8>),
     /// An end tag.
     EndTag,
+    /// `<` and a part of a name without a colon, where elements stand too deep.
+    DeepName,
+    /// `<`, a prefix and its colon, where elements stand too deep.
+    DeepPrefix,
 }

@@ -10,6 +10,7 @@ use crate::faults::StreamFault;
 use crate::parts::Part;
 use crate::reader::Reader;
 use crate::reading::malformed;
+use tc_base::Place;
 
 impl Reader<'_> {
     /// The fault of a text that has come to its end, or to what is no character of XML, at a place.
@@ -19,12 +20,13 @@ impl Reader<'_> {
             → (self.old.part ≡ Part.Between → self.old.phase ≡ Phase.End → r ≢ []) → IsFaultOf (chars ++ r) result }
     {
         match self.part {
-            Part::Tag(_) => self.fault_of_tag(false),
+            Part::Tag(_) => self.fault_of_tag(),
+            Part::DeepName => StreamFault::TooDeep(Place(self.begun)),
             _ => malformed(self.stop(place)),
         }
     }
 
-    /// Where reading stops if the text ends at a place, but for a start tag.
+    /// Where reading stops if the text ends at a place, but for a start tag whose name stands.
     fn stop(&self, place: u32) -> u32
         ensures { (x : g.Grammar) (chars : List ℕ) → ReadsTo x self.now chars → length chars ≡ place → result ≤ length chars }
     {

@@ -1,30 +1,26 @@
 // How a tag goes on, which is kept until its end and read whole (XML 1.0, 3.1).
-ghost use Rattle.std.specs.Prelude.{◌≡◌, ◌≢◌, ◌<◌, ◌≤◌, ◌+◌, ◌++◌, ◌∷◌, ℕ, List, [], Option, true, length, take, drop, IfOk, IfErr, MatchBool, IsFalse, IsCharBoundary};
+ghost use Rattle.std.specs.Prelude.{◌≡◌, ◌≢◌, ◌<◌, ◌≤◌, ◌+◌, ◌++◌, ◌∷◌, ℕ, List, [], Option, length, take, drop, IfOk, IfErr, IsCharBoundary};
 ghost use Rattle.tc_model.specs.Grammars as g;
 ghost use Rattle.tc_model.specs.Names.{IsChars};
-ghost use Rattle.tc_model.specs.RawTrees.{Bound};
-ghost use Rattle.tc_model.specs.XmlTextBytes.{FrontOf, Lacks};
-ghost use Rattle.tc_model.specs.XmlTextNames.{QualifiedName, QNameAt};
+ghost use Rattle.tc_model.specs.XmlTextBytes.{Lacks};
 ghost use Rattle.tc_stream.specs.Cuts.{BeginsNoChar};
 ghost use Rattle.tc_stream.specs.Faults.{IsFaultOf, IsFaultOfFront};
 ghost use Rattle.tc_stream.specs.Forms.{FormRead};
-ghost use Rattle.tc_stream.specs.Goes as goes;
-ghost use Rattle.tc_stream.specs.Keeps.{IsReady, Keeps};
+ghost use Rattle.tc_stream.specs.Keeps.{IsReady};
 ghost use Rattle.tc_stream.specs.Reading.{FaultsOn, ReadsOn};
 ghost use Rattle.tc_stream.specs.Scans.{ended, quoted, tag_scan};
 ghost use Rattle.tc_stream.specs.Stands.{IsReading, ReadsTo};
-ghost use Rattle.tc_stream.specs.TagStands.{DeepTold, EndTold, IsEndTag, IsStartTag, StandsBehind, TagStands, TagTold, TellsFault, TellsNoElement, TellsScanned};
+ghost use Rattle.tc_stream.specs.TagStands.{IsEndTag, IsStartTag, StandsBehind, TagStands, TagTold, TellsFault, TellsNoElement, TellsScanned};
 ghost use Rattle.tc_stream.specs.Written.{AreWritten};
 ghost use Rattle.tc_stream.specs.XmlTextTags.{WrittenElement};
 
 use crate::elements::{Elements, NoElement};
 use crate::faults::StreamFault;
-use crate::names::Room;
 use crate::parts::Part;
 use crate::phases::Phase;
 use crate::reader::Reader;
 use crate::tag_ends::{TagEnd, end_of_end_tag, end_of_tag};
-use crate::tags::{Form, NoForm, end_form, named};
+use crate::tags::{Form, NoForm, is_end_tag};
 use tc_base::Place;
 use tc_scan::characters;
 
@@ -56,22 +52,6 @@ fn scan_tag(quote: Option<u8>, bytes: &[u8]) -> Scanned
     }
 }
 
-/// Puts bytes into a room, as many as it takes; whether it takes all.
-fn put(tag: &mut Room, text: &str) -> bool
-    ensures most { tag.new.most ≡ tag.old.most }
-    ensures bytes { MatchBool result
-        (tag.new.bytes.items ≡ tag.old.bytes.items ++ text.now)
-        ((tag.new.bytes.items ≡ take tag.old.most (tag.old.bytes.items ++ text.now)) × (tag.old.most < length (tag.old.bytes.items ++ text.now))) }
-{
-    let bytes = text.as_bytes();
-    if tag.push_all(bytes) {
-        return true;
-    }
-    let room = tag.left();
-    let _is_put = tag.push_all(&bytes[..room]);
-    false
-}
-
 /// The place in the whole of a place in a tag of so many bytes, which stands at a place.
 fn place_in(begun: u32, at: usize, count: usize) -> u32
     requires low { begun ≤ 67108864 }
@@ -82,62 +62,29 @@ fn place_in(begun: u32, at: usize, count: usize) -> u32
     begun + at.min(count) as u32
 }
 
-/// The fault of a tag that isn't read for this reason, where it may be too long.
-fn fault_of(stop: NoForm, begun: u32, count: usize, is_long: bool) -> StreamFault
+/// The fault of a tag that isn't read for this reason.
+fn fault_of(stop: NoForm, begun: u32, count: usize) -> StreamFault
     requires low { begun ≤ 67108864 }
     requires few { count ≤ 65536 }
-    ensures { TellsFault result stop begun count is_long }
+    ensures { TellsFault result stop begun count }
 {
     match stop {
         NoForm::Malformed(at) => StreamFault::Malformed(Place(place_in(begun, at, count))),
-        NoForm::Short(at) => {
-            if is_long {
-                return StreamFault::TagTooLong;
-            }
-            StreamFault::Malformed(Place(place_in(begun, at, count)))
-        }
         NoForm::Unsupported(at, why) => {
             StreamFault::Unsupported(Place(place_in(begun, at, count)), why)
         }
     }
 }
 
-/// The fault of a tag at which elements stand too deep: its name decides.
-fn deep_fault(tag: &str, begun: u32, is_long: bool) -> StreamFault
+/// The fault of a start tag or an empty-element tag of which no more than these characters come.
+fn tag_fault(elements: &mut Elements<'_>, tag: &str, begun: u32) -> StreamFault
     requires low { begun ≤ 67108864 }
     requires short { length tag.now ≤ 65536 }
-    ensures { DeepTold result tag.now begun is_long }
+    ensures { TagTold result tag.now begun }
 {
-    match named(tag, is_long) {
-        Ok(()) => StreamFault::TooDeep(Place(begun)),
-        Err(stop) => fault_of(stop, begun, tag.len(), is_long),
-    }
-}
-
-/// The fault of a start tag or an empty-element tag by these characters of it, where it may be too long.
-fn tag_fault(elements: &mut Elements<'_>, tag: &str, begun: u32, is_long: bool) -> StreamFault
-    requires low { begun ≤ 67108864 }
-    requires short { length tag.now ≤ 65536 }
-    ensures { TagTold elements.old result tag.now begun is_long }
-{
-    if elements.is_full() {
-        return deep_fault(tag, begun, is_long);
-    }
-    match elements.form(tag, is_long) {
+    match elements.form(tag) {
         Ok(_) => StreamFault::Malformed(Place(begun)),
-        Err(stop) => fault_of(stop, begun, tag.len(), is_long),
-    }
-}
-
-/// The fault of an end tag by these characters of it, where it may be too long.
-fn end_fault(tag: &str, name: &[u8], begun: u32, is_long: bool) -> StreamFault
-    requires low { begun ≤ 67108864 }
-    requires short { length tag.now ≤ 65536 }
-    ensures { (written : QualifiedName) → QNameAt name.now written [] → EndTold result tag.now written begun is_long }
-{
-    match end_form(tag, name) {
-        Ok(()) => StreamFault::Malformed(Place(begun)),
-        Err(stop) => fault_of(stop, begun, tag.len(), is_long),
+        Err(stop) => fault_of(stop, begun, tag.len()),
     }
 }
 
@@ -167,59 +114,47 @@ fn enter(elements: &mut Elements<'_>, tag: &str, form: &Form, begun: u32) -> Res
     }
 }
 
-/// Goes into the element whose tag this is, and out of it again where it is empty.
+/// Goes into the element whose tag this is, and out of it again where it is empty. Such a tag isn't kept where elements
+/// stand too deep.
 fn start(elements: &mut Elements<'_>, tag: &str, begun: u32) -> Result<(), StreamFault>
     requires ready { IsReady elements.old }
     requires low { begun ≤ 67108864 }
     requires short { length tag.now ≤ 65536 }
     ensures ready { IfOk result (λ _. IsReady elements.new) }
     ensures ok { (x : g.Grammar) (chars : List ℕ) → IsStartTag tag.now → TagStands x elements.old begun tag.now chars → IfOk result (λ _. StandsBehind x elements.new chars) }
-    ensures fault { (x : g.Grammar) (chars : List ℕ) → IsStartTag tag.now → TagStands x elements.old begun tag.now chars → IfErr result (λ e. IsFaultOfFront chars e) }
+    ensures fault { (x : g.Grammar) (chars : List ℕ) → IsStartTag tag.now → TagStands x elements.old begun tag.now chars → length elements.old.levels.items < 2000 → IfErr result (λ e. IsFaultOfFront chars e) }
 {
     if elements.is_full() {
-        return Err(deep_fault(tag, begun, false));
+        return Err(StreamFault::TooDeep(Place(begun)));
     }
-    match elements.form(tag, false) {
+    match elements.form(tag) {
         Ok(form) => enter(elements, tag, &form, begun),
-        Err(stop) => Err(fault_of(stop, begun, tag.len(), false)),
+        Err(stop) => Err(fault_of(stop, begun, tag.len())),
     }
 }
 
 /// Goes out of the element whose end tag this is.
 fn end(elements: &mut Elements<'_>, tag: &str, begun: u32) -> Result<(), StreamFault>
     requires ready { IsReady elements.old }
-    requires low { begun ≤ 67108864 }
     requires short { length tag.now ≤ 65536 }
     ensures ready { IfOk result (λ _. IsReady elements.new) }
     ensures ok { (x : g.Grammar) (chars : List ℕ) → IsEndTag tag.now → (t : TagStands x elements.old begun tag.now chars) → t.ls ≢ [] → IfOk result (λ _. StandsBehind x elements.new chars) }
     ensures fault { (x : g.Grammar) (chars : List ℕ) → IsEndTag tag.now → (t : TagStands x elements.old begun tag.now chars) → t.ls ≢ [] → IfErr result (λ e. IsFaultOfFront chars e) }
 {
-    match end_form(tag, elements.name()) {
-        Ok(()) => {
-            elements.end();
-            Ok(())
-        }
-        Err(stop) => Err(fault_of(stop, begun, tag.len(), false)),
+    if !is_end_tag(tag, elements.name()) {
+        return Err(StreamFault::Malformed(Place(begun)));
     }
+    elements.end();
+    Ok(())
 }
 
 impl Reader<'_> {
-    /// The fault of the start tag or empty-element tag that is kept, where it may be too long.
-    pub(crate) fn fault_of_tag(&mut self, is_long: bool) -> StreamFault
-        ensures told { (tag : List ℕ) × FrontOf self.old.tag.bytes.items tag × TagTold self.old.elements result tag self.old.begun is_long }
-        ensures unended { IsFalse is_long → (x : g.Grammar) (chars r : List ℕ) (quote : Option ℕ) → ReadsTo x self.old chars → self.old.part ≡ Part.Tag quote → BeginsNoChar r → IsFaultOf (chars ++ r) result }
+    /// The fault of the start tag or empty-element tag that is kept, of which no more comes.
+    pub(crate) fn fault_of_tag(&mut self) -> StreamFault
+        ensures { (x : g.Grammar) (chars r : List ℕ) (quote : Option ℕ) → ReadsTo x self.old chars → self.old.part ≡ Part.Tag quote → BeginsNoChar r → IsFaultOf (chars ++ r) result }
     {
         let tag = characters(self.tag.bytes());
-        tag_fault(&mut self.elements, tag, self.begun, is_long)
-    }
-
-    /// The fault of the end tag that is kept, which is too long.
-    fn fault_of_end_tag(&self) -> StreamFault
-        ensures { (tag : List ℕ) × FrontOf self.now.tag.bytes.items tag
-            × ((l : goes.Level) (ls : List goes.Level) (scope : List Bound) → Keeps self.now.elements (l ∷ ls) scope → EndTold result tag l.written.name self.now.begun true) }
-    {
-        let tag = characters(self.tag.bytes());
-        end_fault(tag, self.elements.name(), self.begun, true)
+        tag_fault(&mut self.elements, tag, self.begun)
     }
 
     /// Nothing has begun behind a tag that has ended.
@@ -247,8 +182,8 @@ impl Reader<'_> {
         ensures fault { (x : g.Grammar) (chars : List ℕ) (within : Option ℕ) → self.old.part ≡ Part.Tag within → tag_scan within text.now ≡ quoted quote → IsChars text.now
             → ReadsTo x self.old chars → IfErr result (λ e. IsFaultOfFront (chars ++ text.now) e) }
     {
-        if !put(&mut self.tag, text) {
-            return Err(self.fault_of_tag(true));
+        if !self.tag.push_str(text) {
+            return Err(StreamFault::TagTooLong);
         }
         self.part = Part::Tag(quote);
         Ok("")
@@ -261,7 +196,7 @@ impl Reader<'_> {
         ensures ok { (x : g.Grammar) (chars : List ℕ) → IsStartTag self.old.tag.bytes.items → TagStands x self.old.elements self.old.begun self.old.tag.bytes.items chars
             → IfOk result (λ _. ReadsTo x self.new chars) }
         ensures fault { (x : g.Grammar) (chars : List ℕ) → IsStartTag self.old.tag.bytes.items → TagStands x self.old.elements self.old.begun self.old.tag.bytes.items chars
-            → IfErr result (λ e. IsFaultOfFront chars e) }
+            → length self.old.elements.levels.items < 2000 → IfErr result (λ e. IsFaultOfFront chars e) }
     {
         let tag = characters(self.tag.bytes());
         start(&mut self.elements, tag, self.begun)?;
@@ -282,8 +217,8 @@ impl Reader<'_> {
             → ReadsTo x self.old chars → IfErr result (λ e. IsFaultOfFront (chars ++ text.now) e) }
     {
         let (front, rest) = text.split_at(count);
-        if !put(&mut self.tag, front) {
-            return Err(self.fault_of_tag(true));
+        if !self.tag.push_str(front) {
+            return Err(StreamFault::TagTooLong);
         }
         self.start_kept()?;
         Ok(rest)
@@ -318,10 +253,10 @@ impl Reader<'_> {
         ensures fault { (x : g.Grammar) (chars : List ℕ) → self.old.part ≡ Part.EndTag → Lacks (0x3E ∷ []) text.now → IsChars text.now
             → ReadsTo x self.old chars → IfErr result (λ e. IsFaultOfFront (chars ++ text.now) e) }
     {
-        if put(&mut self.tag, text) {
+        if self.tag.push_str(text) {
             Ok("")
         } else {
-            Err(self.fault_of_end_tag())
+            Err(StreamFault::TagTooLong)
         }
     }
 
@@ -349,10 +284,10 @@ impl Reader<'_> {
         ensures fault { (x : g.Grammar) (chars front : List ℕ) → self.old.part ≡ Part.EndTag → text.now ≡ front ++ 0x3E ∷ [] → Lacks (0x3E ∷ []) front → IsChars text.now
             → ReadsTo x self.old chars → IfErr result (λ e. IsFaultOfFront (chars ++ text.now) e) }
     {
-        if put(&mut self.tag, text) {
+        if self.tag.push_str(text) {
             self.end_kept()
         } else {
-            Err(self.fault_of_end_tag())
+            Err(StreamFault::TagTooLong)
         }
     }
 

@@ -222,7 +222,7 @@ static TAGS: [Made<'static>; 9] = [
         NINE_AND_MORE,
         OF_EMPTY,
         &[Once("<a b=<"), Times(" ", 70_000)],
-        "refused D malformed at 5\n",
+        "limit tag 65536\n",
     ),
     (
         NINE_AND_MORE,
@@ -239,7 +239,7 @@ static TAGS: [Made<'static>; 9] = [
 ];
 
 /// How deep elements nest, whole and in pieces.
-static DEEP: [Made<'static>; 4] = [
+static DEEP: [Made<'static>; 5] = [
     (
         ALL_SIZES,
         &[Once(NESTED)],
@@ -262,6 +262,12 @@ static DEEP: [Made<'static>; 4] = [
         ALL_SIZES,
         &[Once(BOTH)],
         &[Times("<a>", 2_001), Times("</a>", 2_001)],
+        "refused D too-deep at 6000\n",
+    ),
+    (
+        NINE_AND_MORE,
+        OF_EMPTY,
+        &[Times("<a>", 2_000), Once("<"), Times("n", 70_000)],
         "refused D too-deep at 6000\n",
     ),
 ];

@@ -30,7 +30,7 @@ fn assert_rows(
     Ok(())
 }
 
-static TAGS: [Row<'static>; 23] = [
+static TAGS: [Row<'static>; 24] = [
     ("<a", " ", 65_532, "/>", Answer::Valid),
     ("<a", " ", 65_533, "/>", LONG),
     ("<a", " ", 65_535, "/>", LONG),
@@ -38,35 +38,8 @@ static TAGS: [Row<'static>; 23] = [
     ("<a></a", " ", 65_533, ">", LONG),
     ("<a", " ", 65_533, "></a>", Answer::Valid),
     ("<a", " ", 65_534, "></a>", LONG),
-    (
-        "<a b=<",
-        " ",
-        70_000,
-        "",
-        Answer::Fault(StreamFault::Malformed(Place(5))),
-    ),
-    (
-        "<a xml:space=''",
-        " ",
-        70_000,
-        "/>",
-        Answer::Fault(StreamFault::Unsupported(Place(3), Why::XmlSpace)),
-    ),
-    (
-        "<a b='&x;' c='",
-        " ",
-        70_000,
-        "'/>",
-        Answer::Fault(StreamFault::Unsupported(Place(6), Why::EntityReference)),
-    ),
-    (
-        "<a></b",
-        " ",
-        70_000,
-        ">",
-        Answer::Fault(StreamFault::Malformed(Place(3))),
-    ),
     ("<a b='", " ", 70_000, "'/>", LONG),
+    ("<a b='>", " ", 70_000, "'/>", LONG),
     ("<a b", " ", 70_000, "=''/>", LONG),
     ("<a b=", " ", 70_000, "''/>", LONG),
     ("<a b='' b='' xmlns:p='' ", " ", 70_000, "/>", LONG),
@@ -74,27 +47,140 @@ static TAGS: [Row<'static>; 23] = [
     ("<a b=\"", "\u{1F600}", 70_000, "\">", LONG),
     ("<", "a", 70_000, "/>", LONG),
     ("<a:", "a", 70_000, "/>", LONG),
-    (
-        "<a></",
-        "a",
-        70_000,
-        ">",
-        Answer::Fault(StreamFault::Malformed(Place(3))),
-    ),
     ("<a b='&", "a", 70_000, ";'/>", LONG),
     ("<a b='&#", "0", 70_000, ";'/>", LONG),
-    (
-        "<a b='&#1",
-        "1",
-        70_000,
-        ";'/>",
-        Answer::Fault(StreamFault::Malformed(Place(6))),
-    ),
+    // whatever else is wrong in it
+    ("<a b=<", " ", 70_000, "", LONG),
+    ("<a xml:space=''", " ", 70_000, "/>", LONG),
+    ("<a b='&x;' c='", " ", 70_000, "'/>", LONG),
+    ("<a></b", " ", 70_000, ">", LONG),
+    ("<a></", "a", 70_000, ">", LONG),
+    ("<a b='&#1", "1", 70_000, ";'/>", LONG),
 ];
 
 #[test]
 fn tags_have_a_longest(rt: HostRuntime) -> Result<(), Fail> {
     assert_rows(&rt, rt.alloc(), &TAGS, &[3, 4096, 1_000_000])
+}
+
+/// Tags that end where they may, and what begins none.
+static SHORT_TAGS: [Row<'static>; 9] = [
+    (
+        "<a b=<",
+        " ",
+        65_529,
+        ">",
+        Answer::Fault(StreamFault::Malformed(Place(5))),
+    ),
+    ("<a b=<", " ", 65_530, ">", LONG),
+    (
+        "<a xml:space=''",
+        " ",
+        65_519,
+        "/>",
+        Answer::Fault(StreamFault::Unsupported(Place(3), Why::XmlSpace)),
+    ),
+    ("<a xml:space=''", " ", 65_520, "/>", LONG),
+    (
+        "<a></b",
+        " ",
+        65_532,
+        ">",
+        Answer::Fault(StreamFault::Malformed(Place(3))),
+    ),
+    ("<a></b", " ", 65_533, ">", LONG),
+    // no quotes stand in an end tag
+    (
+        "<a></a'>",
+        " ",
+        70_000,
+        "",
+        Answer::Fault(StreamFault::Malformed(Place(3))),
+    ),
+    (
+        "<1",
+        "a",
+        70_000,
+        "/>",
+        Answer::Fault(StreamFault::Malformed(Place(1))),
+    ),
+    (
+        "</",
+        "a",
+        70_000,
+        ">",
+        Answer::Fault(StreamFault::Malformed(Place(1))),
+    ),
+];
+
+#[test]
+fn tags_that_end_are_read(rt: HostRuntime) -> Result<(), Fail> {
+    assert_rows(&rt, rt.alloc(), &SHORT_TAGS, &[3, 4096, 1_000_000])
+}
+
+const DEEP: Answer = Answer::Fault(StreamFault::TooDeep(Place(6000)));
+
+/// What stands inside 2,000 elements, and what the document is: a name decides where they stand too deep, however long
+/// it is.
+static DEEP_TAGS: [Row<'static>; 10] = [
+    ("<", "n", 70_000, "", DEEP),
+    ("<", "n", 70_000, "/>", DEEP),
+    ("<n:", "n", 70_000, "/>", DEEP),
+    ("<n:n:n b=<", " ", 70_000, "/>", DEEP),
+    (
+        "<",
+        "n",
+        70_000,
+        ":/>",
+        Answer::Fault(StreamFault::Malformed(Place(6000))),
+    ),
+    (
+        "<",
+        "n",
+        70_000,
+        ":",
+        Answer::Fault(StreamFault::Malformed(Place(6000))),
+    ),
+    (
+        "<",
+        "n",
+        70_000,
+        ":1/>",
+        Answer::Fault(StreamFault::Malformed(Place(6000))),
+    ),
+    (
+        "<1",
+        "n",
+        70_000,
+        "/>",
+        Answer::Fault(StreamFault::Malformed(Place(6000))),
+    ),
+    ("</a", " ", 70_000, ">", LONG),
+    (
+        "<!--",
+        "x",
+        70_000,
+        "--><n/>",
+        Answer::Fault(StreamFault::TooDeep(Place(76_007))),
+    ),
+];
+
+#[test]
+fn a_name_tells_what_stands_too_deep(rt: HostRuntime) -> Result<(), Fail> {
+    let outer = repeated(rt.alloc(), "", "<a>", 2_000, "")?;
+    for (front, middle, times, back, answer) in &DEEP_TAGS {
+        let begun = repeated(rt.alloc(), outer.as_str(), front, 1, "")?;
+        let text = repeated(rt.alloc(), begun.as_str(), middle, *times, back)?;
+        assert_answer(
+            &rt,
+            rt.alloc(),
+            &EMPTY,
+            text.as_bytes(),
+            &[3, 4096, 1_000_000],
+            *answer,
+        )?;
+    }
+    Ok(())
 }
 
 static NO_TAGS: [Row<'static>; 15] = [

@@ -1,5 +1,5 @@
 use Rattle.tc_stream.proofs.TagBehind.{no_start_fault, starts_behind}
-use Rattle.tc_stream.proofs.TagFaults.{has_room}
+use Rattle.tc_stream.proofs.KeepsLaws.{has_room}
 use Rattle.tc_stream.proofs.tag_reading.enter.Goals as goal
 
 pub returns-in-Ok-clause-ok : goal.returns-in-Ok-clause-ok

@@ -1,14 +1,11 @@
-use Rattle.std.proofs.Common.{◌≡◌, IsTrue, IsFalse, arith}
+use Rattle.std.proofs.Common.{◌≡◌, arith}
 use Rattle.std.specs.Prelude.{encode_utf8}
 use Rattle.std.specs.List.{prefix_len}
 use Rattle.tc_model.specs.XmlTextBytes.{line_ends}
 use Rattle.tc_model.specs.XmlTextReferences.{spaced, is_plain_within}
-use Rattle.tc_stream.specs.Begun.{ValueBegun}
-use Rattle.tc_stream.specs.Missing.{NoPiece}
 use Rattle.tc_stream.specs.Values.{plain, reference}
 use Rattle.tc_stream.proofs.TagReadLaws.{stop_refuses, stop_stands}
-use Rattle.tc_stream.proofs.ValueLaws.{cut_after_plain, no_piece, run_at, lacks_reference}
-use Rattle.tc_stream.proofs.OpenLaws.{short_map, broken_map, no_reference_there, piece_short, piece_missing}
+use Rattle.tc_stream.proofs.ValueLaws.{cut_after_plain, no_piece, run_at, lacks_reference, no_reference_there}
 use Rattle.tc_stream.proofs.tags.after_piece.Goals as goal
 
 pub split_at-requires : goal.split_at-requires
@@ -31,34 +28,16 @@ returns-in-Err-OtherEntity-clause-no c = λ piece rest a.
     let none : prefix_len (is_plain_within c.args.quote) c.args.text.now ≡ 0 = omega (arith, count, few) in
     no_piece none (lacks_reference c.in-Err-OtherEntity.field-0 c.args.text.now c.in-Err-OtherEntity.ensures.no) piece rest a
 
-pub returns-in-Err-Malformed-clause-begun : goal.returns-in-Err-Malformed-clause-begun
-returns-in-Err-Malformed-clause-begun c =
-    let text = c.args.text.now in
-    let may = c.may_begin_reference.result in
-    short_map c.stopped.result (IsTrue may) (ValueBegun c.args.quote text) (piece_short c.args.quote text may c.may_begin_reference.ensures) c.stopped.ensures.short
-
-pub returns-in-Err-Malformed-clause-missing : goal.returns-in-Err-Malformed-clause-missing
-returns-in-Err-Malformed-clause-missing c = λ chars apart.
-    let text = c.args.text.now in
-    let may = c.may_begin_reference.result in
-    let count = c.plain_len_within-count.ensures.count in
-    let few = c.if-count-gt0.false in
-    let none : prefix_len (is_plain_within c.args.quote) text ≡ 0 = omega (arith, count, few) in
-    broken_map c.stopped.result (IsFalse may) (NoPiece c.args.quote text)
-    (λ h. piece_missing c.args.quote text may c.may_begin_reference.ensures h chars apart none
-    (no_reference_there c.in-Err-Malformed.field-0 text c.in-Err-Malformed.field-0-is c.in-Err-Malformed.ensures.no))
-    c.stopped.ensures.broken
-
 pub returns-in-Err-Malformed-clause-no : goal.returns-in-Err-Malformed-clause-no
 returns-in-Err-Malformed-clause-no c =
     let text = c.args.text.now in
     let count = c.plain_len_within-count.ensures.count in
     let few = c.if-count-gt0.false in
     let none : prefix_len (is_plain_within c.args.quote) text ≡ 0 = omega (arith, count, few) in
-    stop_refuses c.stopped.result _ _ c.stopped.ensures.stop (λ piece rest a. no_piece none (no_reference_there c.in-Err-Malformed.field-0 text c.in-Err-Malformed.field-0-is c.in-Err-Malformed.ensures.no) piece rest a)
+    stop_refuses c.lacking.result _ _ c.lacking.ensures (λ piece rest a. no_piece none (no_reference_there c.in-Err-Malformed.field-0 text c.in-Err-Malformed.field-0-is c.in-Err-Malformed.ensures.no) piece rest a)
 
 pub returns-in-Err-Malformed-clause-stands : goal.returns-in-Err-Malformed-clause-stands
-returns-in-Err-Malformed-clause-stands c = stop_stands c.args.total c.stopped.result _ c.stopped.ensures.stop
+returns-in-Err-Malformed-clause-stands c = stop_stands c.args.total c.lacking.result _ c.lacking.ensures
 
 pub returns-then-count-gt0-clause-no : goal.returns-then-count-gt0-clause-no
 returns-then-count-gt0-clause-no c = tt
@@ -66,32 +45,14 @@ returns-then-count-gt0-clause-no c = tt
 pub returns-then-count-gt0-clause-stands : goal.returns-then-count-gt0-clause-stands
 returns-then-count-gt0-clause-stands c = tt
 
-pub returns-then-count-gt0-clause-begun : goal.returns-then-count-gt0-clause-begun
-returns-then-count-gt0-clause-begun c = tt
-
-pub returns-then-count-gt0-clause-missing : goal.returns-then-count-gt0-clause-missing
-returns-then-count-gt0-clause-missing c = λ chars other. tt
-
 pub returns-in-Ok-clause-no : goal.returns-in-Ok-clause-no
 returns-in-Ok-clause-no c = tt
 
 pub returns-in-Ok-clause-stands : goal.returns-in-Ok-clause-stands
 returns-in-Ok-clause-stands c = tt
 
-pub returns-in-Ok-clause-begun : goal.returns-in-Ok-clause-begun
-returns-in-Ok-clause-begun c = tt
-
-pub returns-in-Ok-clause-missing : goal.returns-in-Ok-clause-missing
-returns-in-Ok-clause-missing c = λ chars other. tt
-
 pub returns-in-Err-OtherEntity-clause-ok : goal.returns-in-Err-OtherEntity-clause-ok
 returns-in-Err-OtherEntity-clause-ok c = tt
-
-pub returns-in-Err-OtherEntity-clause-begun : goal.returns-in-Err-OtherEntity-clause-begun
-returns-in-Err-OtherEntity-clause-begun c = tt
-
-pub returns-in-Err-OtherEntity-clause-missing : goal.returns-in-Err-OtherEntity-clause-missing
-returns-in-Err-OtherEntity-clause-missing c = λ chars other. tt
 
 pub returns-in-Err-Malformed-clause-ok : goal.returns-in-Err-Malformed-clause-ok
 returns-in-Err-Malformed-clause-ok c = tt

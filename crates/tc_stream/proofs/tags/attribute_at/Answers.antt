@@ -1,32 +1,24 @@
-use Rattle.std.proofs.Common.{◌≡◌, ◌≢◌, ◌∙◌, [], ◌≤◌, List, ℕ, IsTrue, IsFalse, refl, ap, sym, subst, arith, length, true, false}
+use Rattle.std.proofs.Common.{◌≤◌, List, ℕ, refl, ap, sym, subst, arith, length, true, false}
 use Rattle.tc_base.specs.declared.reasons.Why.{Why}
 use Rattle.tc_model.specs.XmlTextBytes.{after_white, place_of}
 use Rattle.tc_model.specs.XmlTextNames.{QNameAt}
 use Rattle.tc_model.specs.XmlTextRefusals.{AttributesRefuse}
 use Rattle.tc_model.specs.XmlTextScopes.{WrittenAttribute}
 use Rattle.tc_scan.specs.Views.{written_name}
-use Rattle.tc_model.specs.Names.{IsChars}
-use Rattle.tc_model.proofs.XmlTextChars.{white_chars}
-use Rattle.tc_stream.specs.Begun.{NameBegun, QuotedBegun, AttributesBegun, AttributesRefused}
-use Rattle.tc_stream.specs.Begun as b
-use Rattle.tc_stream.specs.Forms.{AttributeAt, Refuses, UnsupportedAt, OnMalformed, OnShort, OnBroken}
-use Rattle.tc_stream.specs.Missing.{NoName, NoQuoted, NoAttribute}
+use Rattle.tc_stream.specs.Forms.{AttributeAt, Refuses, UnsupportedAt, OnMalformed}
 use Rattle.tc_stream.proofs.FailedLaws.{failed_ok}
 use Rattle.tc_stream.proofs.FormLaws.{failed, refuse_both, unsupported_map, of_both, not_xml_space, no_equals, no_value, value_stands, no_name_refused, no_equals_refused, no_value_refused, refused_white, white_within, qname_within, equals_within}
-use Rattle.tc_stream.proofs.ShortLaws.{named_short}
-use Rattle.tc_stream.proofs.MissingLaws.{no_name_there_open, no_value_there_open}
-use Rattle.tc_stream.proofs.OpenLaws.{short_map, broken_map, none_left, some_left, nothing_begun, no_white_there, space_refused, equals_missing, value_short, value_refuses_open, value_chars}
-use Rattle.tc_stream.proofs.TagReadLaws.{stop_refuses, stop_stands, stop_malformed, space_here, not_space_here, no_space_here, an_attribute, attribute_stands}
+use Rattle.tc_stream.proofs.TagReadLaws.{stop_refuses, stop_stands, stop_malformed, space_here, an_attribute, attribute_stands}
 use Rattle.tc_stream.proofs.tags.attribute_at.Goals as goal
 
 pub returns-in_default-clause-no : goal.returns-in_default-clause-no
-returns-in_default-clause-no c = stop_refuses c.lacking.result _ _ c.lacking.ensures.stop (λ w after a. c.in_default.ensures a.white)
+returns-in_default-clause-no c = stop_refuses c.lacking.result _ _ c.lacking.ensures (λ w after a. c.in_default.ensures a.white)
 
 pub returns-in_default-clause-stands : goal.returns-in_default-clause-stands
-returns-in_default-clause-stands c = stop_stands c.args.total c.lacking.result _ c.lacking.ensures.stop
+returns-in_default-clause-stands c = stop_stands c.args.total c.lacking.result _ c.lacking.ensures
 
 pub returns-in_default-clause-malformed : goal.returns-in_default-clause-malformed
-returns-in_default-clause-malformed c = λ _. stop_malformed c.lacking.result _ c.lacking.ensures.stop (λ why at a. c.in_default.ensures (refused_white a))
+returns-in_default-clause-malformed c = stop_malformed c.lacking.result _ c.lacking.ensures (λ why at a. c.in_default.ensures (refused_white a))
 
 pub returns-in_err-name-clause-no : goal.returns-in_err-name-clause-no
 returns-in_err-name-clause-no c =
@@ -44,34 +36,34 @@ returns-in_err-name-clause-stands c =
     (stop_stands c.args.total e (AttributesRefuse c.args.text.now) c.in_err-name.ensures.no.0)
 
 pub returns-in_err-name-clause-malformed : goal.returns-in_err-name-clause-malformed
-returns-in_err-name-clause-malformed c = λ _.
+returns-in_err-name-clause-malformed c =
     let e = c.in_err-name.field-0.0 in
     let Q = (why : Why) (at : List ℕ) → AttributesRefuse c.args.text.now why at → ⊥ in
     failed c.from_residual.result (λ e. OnMalformed e Q) e c.from_residual.ensures.1
     (stop_malformed e Q c.in_err-name.ensures.no.0 (no_name_refused c.args.text.now c.in-Some.start.now c.in-Some.ensures.1 c.in_err-name.ensures.no.1))
 
-pub returns-then-is_refused-clause-no : goal.returns-then-is_refused-clause-no
-returns-then-is_refused-clause-no c =
-    not_xml_space false c.args.total c.args.text.now c.in-Some.start.now c.in_ok-name.behind.now (written_name c.in_ok-name.name) c.in-Some.ensures.1 c.in_ok-name.ensures.ok (c.if-is_refused.ensures.refused refl)
+pub returns-then-is_xml_space-clause-no : goal.returns-then-is_xml_space-clause-no
+returns-then-is_xml_space-clause-no c =
+    not_xml_space false c.args.total c.args.text.now c.in-Some.start.now c.in_ok-name.behind.now (written_name c.in_ok-name.name) c.in-Some.ensures.1 c.in_ok-name.ensures.ok c.if-is_xml_space.ensures
 
-pub returns-then-is_refused-clause-stands : goal.returns-then-is_refused-clause-stands
-returns-then-is_refused-clause-stands c =
+pub returns-then-is_xml_space-clause-stands : goal.returns-then-is_xml_space-clause-stands
+returns-then-is_xml_space-clause-stands c =
     let start : length c.in-Some.start.now ≤ c.args.total = omega (arith, ap length c.in-Some.ensures.1, white_within c.args.text.now, c.requires) in
-    space_here c.args.total c.args.text.now c.in-Some.start.now c.in_ok-name.behind.now (written_name c.in_ok-name.name) start c.in-Some.ensures.0 c.in-Some.ensures.1 c.in_ok-name.ensures.ok (c.if-is_refused.ensures.refused refl)
+    space_here c.args.total c.args.text.now c.in-Some.start.now c.in_ok-name.behind.now (written_name c.in_ok-name.name) start c.in-Some.ensures.0 c.in-Some.ensures.1 c.in_ok-name.ensures.ok c.if-is_xml_space.ensures
 
 pub returns-in_default-after_equals-clause-no : goal.returns-in_default-after_equals-clause-no
 returns-in_default-after_equals-clause-no c =
-    stop_refuses c.stopped.result _ _ c.stopped.ensures.stop
+    stop_refuses c.lacking-in_default-after_equals.result _ _ c.lacking-in_default-after_equals.ensures
     (no_equals true c.args.total c.args.text.now c.in-Some.start.now c.in_ok-name.behind.now (written_name c.in_ok-name.name) c.in-Some.ensures.1 c.in_ok-name.ensures.ok c.in_default-after_equals.ensures)
 
 pub returns-in_default-after_equals-clause-stands : goal.returns-in_default-after_equals-clause-stands
-returns-in_default-after_equals-clause-stands c = stop_stands c.args.total c.stopped.result _ c.stopped.ensures.stop
+returns-in_default-after_equals-clause-stands c = stop_stands c.args.total c.lacking-in_default-after_equals.result _ c.lacking-in_default-after_equals.ensures
 
 pub returns-in_default-after_equals-clause-malformed : goal.returns-in_default-after_equals-clause-malformed
-returns-in_default-after_equals-clause-malformed c = λ m.
-    stop_malformed c.stopped.result _ c.stopped.ensures.stop
+returns-in_default-after_equals-clause-malformed c =
+    stop_malformed c.lacking-in_default-after_equals.result _ c.lacking-in_default-after_equals.ensures
     (no_equals_refused c.args.text.now c.in-Some.start.now c.in_ok-name.behind.now (written_name c.in_ok-name.name) c.in-Some.ensures.1 c.in_ok-name.ensures.ok
-    (not_space_here _ c.args.may_go_on c.in_ok-name.behind.now (c.if-is_refused.ensures.read refl) m) c.in_default-after_equals.ensures)
+    c.if-is_xml_space.ensures c.in_default-after_equals.ensures)
 
 pub returns-in_err-value-clause-no : goal.returns-in_err-value-clause-no
 returns-in_err-value-clause-no c =
@@ -91,18 +83,18 @@ returns-in_err-value-clause-stands c =
     let t = c.args.text.now in
     let n = written_name c.in_ok-name.name in
     let e = c.in_err-value.field-0.0 in
-    let space = sym (no_space_here c.in_ok-name.behind.now c.in-Some-after_equals.equals.now _ c.args.may_go_on c.in-Some-after_equals.ensures (c.if-is_refused.ensures.read refl)) in
+    let space = c.if-is_xml_space.ensures in
     failed c.from_residual-in_err-value.result (λ e. UnsupportedAt c.args.total e (AttributesRefuse t)) e c.from_residual-in_err-value.ensures.1
     (unsupported_map c.args.total e _ (AttributesRefuse t)
     (value_stands t c.in-Some.start.now c.in_ok-name.behind.now c.in-Some-after_equals.equals.now n c.in-Some.ensures.0 c.in-Some.ensures.1 c.in_ok-name.ensures.ok space c.in-Some-after_equals.ensures)
     c.in_err-value.ensures.stands)
 
 pub returns-in_err-value-clause-malformed : goal.returns-in_err-value-clause-malformed
-returns-in_err-value-clause-malformed c = λ _.
+returns-in_err-value-clause-malformed c =
     let n = written_name c.in_ok-name.name in
     let e = c.in_err-value.field-0.0 in
     let Q = (why : Why) (at : List ℕ) → AttributesRefuse c.args.text.now why at → ⊥ in
-    let space = sym (no_space_here c.in_ok-name.behind.now c.in-Some-after_equals.equals.now _ c.args.may_go_on c.in-Some-after_equals.ensures (c.if-is_refused.ensures.read refl)) in
+    let space = c.if-is_xml_space.ensures in
     failed c.from_residual-in_err-value.result (λ e. OnMalformed e Q) e c.from_residual-in_err-value.ensures.1
     (of_both e _ _ _ Q
     (no_value_refused c.args.text.now c.in-Some.start.now c.in_ok-name.behind.now c.in-Some-after_equals.equals.now n c.in-Some.ensures.1 c.in_ok-name.ensures.ok space c.in-Some-after_equals.ensures)
@@ -114,7 +106,7 @@ returns-clause-ok c =
     let n = written_name c.in_ok-name.name in
     let (v, read) = c.in_ok-value.ensures.ok in
     let place = place_of c.args.total (after_white t) in
-    let space = no_space_here c.in_ok-name.behind.now c.in-Some-after_equals.equals.now _ c.args.may_go_on c.in-Some-after_equals.ensures (c.if-is_refused.ensures.read refl) in (
+    let space = sym c.if-is_xml_space.ensures in (
       record { name = n; value = v; place = place },
       an_attribute t c.in-Some.start.now c.in_ok-name.behind.now c.in-Some-after_equals.equals.now c.in_ok-value.rest.now c.args.total n v c.in_ok-value.value c.in_ok-value.quote c.in-Some.ensures.0 c.in-Some.ensures.1 c.in_ok-name.ensures.ok
           c.in-Some-after_equals.ensures read space,
@@ -137,99 +129,8 @@ spans-parts-requires-clause-within c = let same = ap length c.in-Some.ensures.1 
 pub spans-parts-requires-clause-named : goal.spans-parts-requires-clause-named
 spans-parts-requires-clause-named c = (c.in_ok-name.behind.now, c.in_ok-name.ensures.ok)
 
-pub returns-in_default-clause-begun : goal.returns-in_default-clause-begun
-returns-in_default-clause-begun c = let text = c.args.text.now in short_map c.lacking.result (text ≡ []) (AttributesBegun text) (nothing_begun text) c.lacking.ensures.short
-
-pub returns-in_default-clause-refused : goal.returns-in_default-clause-refused
-returns-in_default-clause-refused c = λ g. stop_stands c.args.total c.lacking.result (AttributesRefused c.args.text.now) c.lacking.ensures.stop
-
-pub returns-in_default-clause-missing : goal.returns-in_default-clause-missing
-returns-in_default-clause-missing c = λ chars.
-    let text = c.args.text.now in broken_map c.lacking.result (text ≢ []) (NoAttribute text) (λ h. no_white_there text h c.in_default.ensures) c.lacking.ensures.broken
-
-pub returns-in_err-name-clause-begun : goal.returns-in_err-name-clause-begun
-returns-in_err-name-clause-begun c =
-    let t = c.args.text.now in
-    let x = c.in_err-name.field-0.0 in
-    failed c.from_residual.result (λ e. OnShort e (AttributesBegun t)) x c.from_residual.ensures.1
-    (short_map x (NameBegun c.in-Some.start.now) (AttributesBegun t) (λ h. b.in_name c.in-Some.ensures.0 (subst NameBegun c.in-Some.ensures.1 h)) c.in_err-name.ensures.begun)
-
-pub returns-in_err-name-clause-refused : goal.returns-in_err-name-clause-refused
-returns-in_err-name-clause-refused c = λ g.
-    let x = c.in_err-name.field-0.0 in
-    failed c.from_residual.result (λ e. UnsupportedAt c.args.total e (AttributesRefused c.args.text.now)) x c.from_residual.ensures.1
-    (stop_stands c.args.total x (AttributesRefused c.args.text.now) c.in_err-name.ensures.no.0)
-
-pub returns-in_err-name-clause-missing : goal.returns-in_err-name-clause-missing
-returns-in_err-name-clause-missing c = λ chars.
-    let t = c.args.text.now in
-    let x = c.in_err-name.field-0.0 in
-    failed c.from_residual.result (λ e. OnBroken e (NoAttribute t)) x c.from_residual.ensures.1
-    (broken_map x (NoName c.in-Some.start.now) (NoAttribute t) (no_name_there_open t c.in-Some.start.now c.in-Some.ensures.1)
-    (c.in_err-name.ensures.missing (subst IsChars (sym c.in-Some.ensures.1) (white_chars t chars))))
-
-pub returns-then-is_refused-clause-refused : goal.returns-then-is_refused-clause-refused
-returns-then-is_refused-clause-refused c = λ g.
-    let start : length c.in-Some.start.now ≤ c.args.total = omega (arith, ap length c.in-Some.ensures.1, white_within c.args.text.now, c.requires) in
-    space_refused c.args.total c.args.text.now c.in-Some.start.now c.in_ok-name.behind.now (written_name c.in_ok-name.name) start c.in-Some.ensures.0 c.in-Some.ensures.1 c.in_ok-name.ensures.ok (c.if-is_refused.ensures.refused refl)
-    (c.if-is_refused.ensures.known refl g)
-
-pub returns-in_default-after_equals-clause-begun : goal.returns-in_default-after_equals-clause-begun
-returns-in_default-after_equals-clause-begun c =
-    let t = c.args.text.now in
-    short_map c.stopped.result (IsTrue c.is_empty.result) (AttributesBegun t)
-    (λ h. named_short c.args.may_go_on c.in-Some.ensures.0 c.in-Some.ensures.1 c.in_ok-name.ensures.ok (sym c.after_white.ensures ∙ none_left c.after_white.result.now (sym c.is_empty.ensures ∙ h)) (c.if-is_refused.ensures.read refl))
-    c.stopped.ensures.short
-
-pub returns-in_default-after_equals-clause-refused : goal.returns-in_default-after_equals-clause-refused
-returns-in_default-after_equals-clause-refused c = λ g. stop_stands c.args.total c.stopped.result (AttributesRefused c.args.text.now) c.stopped.ensures.stop
-
-pub returns-in_default-after_equals-clause-missing : goal.returns-in_default-after_equals-clause-missing
-returns-in_default-after_equals-clause-missing c = λ chars.
-    let t = c.args.text.now in
-    broken_map c.stopped.result (IsFalse c.is_empty.result) (NoAttribute t)
-    (λ h. equals_missing t c.in-Some.start.now c.in_ok-name.behind.now (written_name c.in_ok-name.name) c.args.may_go_on c.in-Some.ensures.1 c.in_ok-name.ensures.ok chars
-    (λ f. some_left c.after_white.result.now (sym c.is_empty.ensures ∙ h) (c.after_white.ensures ∙ f)) (c.if-is_refused.ensures.read refl) c.in_default-after_equals.ensures)
-    c.stopped.ensures.broken
-
-pub returns-in_err-value-clause-begun : goal.returns-in_err-value-clause-begun
-returns-in_err-value-clause-begun c =
-    let t = c.args.text.now in
-    let x = c.in_err-value.field-0.0 in
-    let space = no_space_here c.in_ok-name.behind.now c.in-Some-after_equals.equals.now _ c.args.may_go_on c.in-Some-after_equals.ensures (c.if-is_refused.ensures.read refl) in
-    failed c.from_residual-in_err-value.result (λ e. OnShort e (AttributesBegun t)) x c.from_residual-in_err-value.ensures.1
-    (short_map x (QuotedBegun c.in-Some-after_equals.equals.now) (AttributesBegun t)
-    (λ h. value_short c.in-Some.ensures.0 c.in-Some.ensures.1 c.in_ok-name.ensures.ok space c.in-Some-after_equals.ensures h)
-    c.in_err-value.ensures.begun)
-
-pub returns-in_err-value-clause-refused : goal.returns-in_err-value-clause-refused
-returns-in_err-value-clause-refused c = λ g.
-    let t = c.args.text.now in
-    let x = c.in_err-value.field-0.0 in
-    let space = no_space_here c.in_ok-name.behind.now c.in-Some-after_equals.equals.now _ c.args.may_go_on c.in-Some-after_equals.ensures (c.if-is_refused.ensures.read refl) in
-    failed c.from_residual-in_err-value.result (λ e. UnsupportedAt c.args.total e (AttributesRefused t)) x c.from_residual-in_err-value.ensures.1
-    (unsupported_map c.args.total x _ (AttributesRefused t)
-    (value_refuses_open t c.in-Some.start.now c.in_ok-name.behind.now c.in-Some-after_equals.equals.now (written_name c.in_ok-name.name) c.in-Some.ensures.0 c.in-Some.ensures.1 c.in_ok-name.ensures.ok space c.in-Some-after_equals.ensures)
-    c.in_err-value.ensures.stands)
-
-pub returns-in_err-value-clause-missing : goal.returns-in_err-value-clause-missing
-returns-in_err-value-clause-missing c = λ chars.
-    let t = c.args.text.now in
-    let n = written_name c.in_ok-name.name in
-    let equals = c.in-Some-after_equals.equals.now in
-    let x = c.in_err-value.field-0.0 in
-    let space = no_space_here c.in_ok-name.behind.now c.in-Some-after_equals.equals.now _ c.args.may_go_on c.in-Some-after_equals.ensures (c.if-is_refused.ensures.read refl) in
-    failed c.from_residual-in_err-value.result (λ e. OnBroken e (NoAttribute t)) x c.from_residual-in_err-value.ensures.1
-    (broken_map x (NoQuoted equals) (NoAttribute t)
-    (no_value_there_open t c.in-Some.start.now c.in_ok-name.behind.now n c.in-Some.ensures.1 c.in_ok-name.ensures.ok chars equals c.in-Some-after_equals.ensures space)
-    (c.in_err-value.ensures.missing (value_chars t c.in-Some.start.now c.in_ok-name.behind.now equals n c.in-Some.ensures.1 c.in_ok-name.ensures.ok c.in-Some-after_equals.ensures chars)))
-
 pub overflow_sub-result : goal.overflow_sub-result
 overflow_sub-result c = let same = ap length c.in-Some.ensures.1 in let fits = c.requires in omega (arith, same, white_within c.args.text.now, fits)
-
-pub overflow_sub-total : goal.overflow_sub-total
-overflow_sub-total c =
-    let same = ap length c.in-Some.ensures.1 in let fits = c.requires in omega (arith, same, white_within c.args.text.now, fits, qname_within c.in_ok-name.ensures.ok)
 
 pub returns-in_default-clause-ok : goal.returns-in_default-clause-ok
 returns-in_default-clause-ok c = tt
@@ -237,17 +138,11 @@ returns-in_default-clause-ok c = tt
 pub returns-in_err-name-clause-ok : goal.returns-in_err-name-clause-ok
 returns-in_err-name-clause-ok c = failed_ok _ _ _ c.from_residual.ensures.1
 
-pub returns-then-is_refused-clause-ok : goal.returns-then-is_refused-clause-ok
-returns-then-is_refused-clause-ok c = tt
+pub returns-then-is_xml_space-clause-ok : goal.returns-then-is_xml_space-clause-ok
+returns-then-is_xml_space-clause-ok c = tt
 
-pub returns-then-is_refused-clause-malformed : goal.returns-then-is_refused-clause-malformed
-returns-then-is_refused-clause-malformed c = λ _. tt
-
-pub returns-then-is_refused-clause-begun : goal.returns-then-is_refused-clause-begun
-returns-then-is_refused-clause-begun c = tt
-
-pub returns-then-is_refused-clause-missing : goal.returns-then-is_refused-clause-missing
-returns-then-is_refused-clause-missing c = λ _. tt
+pub returns-then-is_xml_space-clause-malformed : goal.returns-then-is_xml_space-clause-malformed
+returns-then-is_xml_space-clause-malformed c = tt
 
 pub returns-in_default-after_equals-clause-ok : goal.returns-in_default-after_equals-clause-ok
 returns-in_default-after_equals-clause-ok c = tt
@@ -262,13 +157,4 @@ pub returns-clause-stands : goal.returns-clause-stands
 returns-clause-stands c = tt
 
 pub returns-clause-malformed : goal.returns-clause-malformed
-returns-clause-malformed c = λ _. tt
-
-pub returns-clause-begun : goal.returns-clause-begun
-returns-clause-begun c = tt
-
-pub returns-clause-refused : goal.returns-clause-refused
-returns-clause-refused c = λ _. tt
-
-pub returns-clause-missing : goal.returns-clause-missing
-returns-clause-missing c = λ _. tt
+returns-clause-malformed c = tt

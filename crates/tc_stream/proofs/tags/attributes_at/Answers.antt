@@ -4,18 +4,14 @@ use Rattle.tc_model.specs.XmlTextBytes.{after_white}
 use Rattle.tc_model.specs.XmlTextContent.{AttributesAt, EndsTag}
 use Rattle.tc_model.specs.XmlTextRefusals.{AttributesRefuse}
 use Rattle.tc_model.specs.XmlTextScopes.{WrittenAttribute}
-use Rattle.tc_stream.specs.Begun.{AttributesBegun, AttributesRefused}
-use Rattle.tc_stream.specs.Forms.{Refuses, UnsupportedAt, OnMalformed, OnShort, OnBroken, lacks_space}
-use Rattle.tc_stream.specs.Missing.{NoAttribute, NoAttributes}
+use Rattle.tc_stream.specs.Forms.{Refuses, UnsupportedAt, OnMalformed, lacks_space}
 use Rattle.tc_stream.proofs.FormLaws.{failed, refuse_both, unsupported_map, of_malformed, no_attributes, attribute_within}
-use Rattle.tc_stream.proofs.MissingLaws.{no_attributes_open}
-use Rattle.tc_stream.proofs.OpenLaws.{short_map, broken_map, attributes_kept_none, attributes_kept_more}
 use Rattle.tc_stream.proofs.TagReadLaws.{taken_none, taken_more, taken_room, taken_all}
 use Rattle.tc_stream.proofs.FailedLaws.{failed_ok}
 use Rattle.tc_stream.proofs.tags.attributes_at.Goals as goal
 
 pub loop-rest-init : goal.loop-rest-init
-loop-rest-init c = record { so_far = taken_none c.args.total c.args.text.now c.args.attributes.now.list.items c.requires.none; text = c.utf8.text; kept = attributes_kept_none c.args.text.now }
+loop-rest-init c = record { so_far = taken_none c.args.total c.args.text.now c.args.attributes.now.list.items c.requires.none; text = c.utf8.text }
 
 pub returns-in_err-attribute-clause-no : goal.returns-in_err-attribute-clause-no
 returns-in_err-attribute-clause-no c =
@@ -37,11 +33,11 @@ returns-in_err-attribute-clause-stands c =
     (unsupported_map c.args.total e _ (AttributesRefuse c.args.text.now) c.loop-rest.invariant.so_far.read.stands c.in_err-attribute.ensures.stands)
 
 pub returns-in_err-attribute-clause-malformed : goal.returns-in_err-attribute-clause-malformed
-returns-in_err-attribute-clause-malformed c = λ m.
+returns-in_err-attribute-clause-malformed c =
     let e = c.in_err-attribute.field-0.0 in
     let Q = (why : Why) (at : List ℕ) → AttributesRefuse c.args.text.now why at → ⊥ in
     failed c.from_residual.result (λ e. OnMalformed e Q) e c.from_residual.ensures.1
-    (of_malformed e _ Q (λ h why at a. h why at (c.loop-rest.invariant.so_far.read.comes why at a)) (c.in_err-attribute.ensures.malformed m))
+    (of_malformed e _ Q (λ h why at a. h why at (c.loop-rest.invariant.so_far.read.comes why at a)) c.in_err-attribute.ensures.malformed)
 
 pub push-requires : goal.push-requires
 push-requires c =
@@ -55,37 +51,12 @@ pub loop-rest-preserved : goal.loop-rest-preserved
 loop-rest-preserved c = record {
   so_far = taken_more c.args.total c.args.text.now c.loop-rest.rest.now c.in_ok-attribute.after.now c.loop-rest.attributes.list.items c.push.new.self.list.items c.in_ok-attribute.attribute c.loop-rest.invariant.so_far c.in_ok-attribute.ensures.ok c.push.ensures;
   text = search rules;
-  kept = let (w, at, stands) = c.in_ok-attribute.ensures.ok in attributes_kept_more c.args.total c.args.text.now c.loop-rest.rest.now c.in_ok-attribute.after.now w c.loop-rest.invariant.kept at;
 }
 
 pub returns-clause-ok : goal.returns-clause-ok
 returns-clause-ok c =
     let rest = c.loop-rest.rest.now in
     taken_all c.args.total c.args.text.now rest c.after_white-2.result.now c.loop-rest.attributes.list.items c.loop-rest.invariant.so_far (subst EndsTag c.after_white.ensures c.loop-rest-test.ensures) c.after_white-2.ensures
-
-pub returns-in_err-attribute-clause-begun : goal.returns-in_err-attribute-clause-begun
-returns-in_err-attribute-clause-begun c =
-    let t = c.args.text.now in
-    let x = c.in_err-attribute.field-0.0 in
-    failed c.from_residual.result (λ e. OnShort e (AttributesBegun t)) x c.from_residual.ensures.1
-    (short_map x (AttributesBegun c.loop-rest.rest.now) (AttributesBegun t) c.loop-rest.invariant.kept.begun c.in_err-attribute.ensures.begun)
-
-pub returns-in_err-attribute-clause-refused : goal.returns-in_err-attribute-clause-refused
-returns-in_err-attribute-clause-refused c = λ g.
-    let t = c.args.text.now in
-    let x = c.in_err-attribute.field-0.0 in
-    failed c.from_residual.result (λ e. UnsupportedAt c.args.total e (AttributesRefused t)) x c.from_residual.ensures.1
-    (unsupported_map c.args.total x (AttributesRefused c.loop-rest.rest.now) (AttributesRefused t) c.loop-rest.invariant.kept.refused (c.in_err-attribute.ensures.refused g))
-
-pub returns-in_err-attribute-clause-missing : goal.returns-in_err-attribute-clause-missing
-returns-in_err-attribute-clause-missing c = λ chars.
-    let t = c.args.text.now in
-    let rest = c.loop-rest.rest.now in
-    let x = c.in_err-attribute.field-0.0 in
-    let kept = c.loop-rest.invariant.kept in
-    let ends : EndsTag (after_white rest) → ⊥ = λ k. c.loop-rest-test.ensures (subst EndsTag (sym c.after_white.ensures) k) in
-    failed c.from_residual.result (λ e. OnBroken e (NoAttributes t)) x c.from_residual.ensures.1
-    (broken_map x (NoAttribute rest) (NoAttributes t) (no_attributes_open t rest kept.stays ends) (c.in_err-attribute.ensures.missing (kept.chars chars)))
 
 pub returns-in_err-attribute-clause-ok : goal.returns-in_err-attribute-clause-ok
 returns-in_err-attribute-clause-ok c = failed_ok _ _ _ c.from_residual.ensures.1
@@ -97,13 +68,4 @@ pub returns-clause-stands : goal.returns-clause-stands
 returns-clause-stands c = tt
 
 pub returns-clause-malformed : goal.returns-clause-malformed
-returns-clause-malformed c = λ _. tt
-
-pub returns-clause-begun : goal.returns-clause-begun
-returns-clause-begun c = tt
-
-pub returns-clause-refused : goal.returns-clause-refused
-returns-clause-refused c = λ _. tt
-
-pub returns-clause-missing : goal.returns-clause-missing
-returns-clause-missing c = λ _. tt
+returns-clause-malformed c = tt

@@ -2,17 +2,13 @@ use Rattle.std.proofs.Common.{◌≡◌, ◌∷◌, [], List, ℕ, ap, ◌∙◌
 use Rattle.tc_model.specs.XmlTextNames.{QualifiedName, QNameAt}
 use Rattle.tc_model.proofs.XmlTextPhrases.{same_others}
 use Rattle.tc_scan.specs.Views.{written_name}
-use Rattle.tc_model.specs.Names.{IsChars}
-use Rattle.tc_stream.specs.Begun.{NameBegun}
-use Rattle.tc_stream.specs.Forms.{IsNameAt, IsStop, OnShort, OnBroken}
-use Rattle.tc_stream.specs.Missing.{NoName}
+use Rattle.tc_stream.specs.Forms.{IsNameAt, IsStop}
 use Rattle.tc_stream.proofs.FormLaws.{failed}
-use Rattle.tc_stream.proofs.OpenLaws.{short_map, broken_map}
 use Rattle.tc_stream.proofs.FailedLaws.{failed_ok}
 use Rattle.tc_stream.proofs.tags.tag_name.Goals as goal
 
 pub returns-in_default-clause-no : goal.returns-in_default-clause-no
-returns-in_default-clause-no c = (c.lacking.ensures.stop, λ start name after e q. c.in_default.ensures start e)
+returns-in_default-clause-no c = (c.lacking.ensures, λ start name after e q. c.in_default.ensures start e)
 
 pub returns-in_err-name-clause-no : goal.returns-in_err-name-clause-no
 returns-in_err-name-clause-no c =
@@ -32,26 +28,6 @@ returns-clause-ok c =
 pub spans-requires-clause-named : goal.spans-requires-clause-named
 spans-requires-clause-named c = (c.in_ok-name.behind.now, c.in_ok-name.ensures.ok)
 
-pub returns-in_default-clause-begun : goal.returns-in_default-clause-begun
-returns-in_default-clause-begun c = λ rest e. absurd (c.in_default.ensures rest e)
-
-pub returns-in_default-clause-missing : goal.returns-in_default-clause-missing
-returns-in_default-clause-missing c = λ rest e chars. absurd (c.in_default.ensures rest e)
-
-pub returns-in_err-name-clause-begun : goal.returns-in_err-name-clause-begun
-returns-in_err-name-clause-begun c = λ rest e.
-    let x = c.in_err-name.field-0.0 in
-    let same : c.in-Some.start.now ≡ rest = same_others (sym c.in-Some.ensures ∙ e) in
-    failed c.from_residual.result (λ y. OnShort y (NameBegun rest)) x c.from_residual.ensures.1
-    (short_map x (NameBegun c.in-Some.start.now) (NameBegun rest) (subst NameBegun same) c.in_err-name.ensures.begun)
-
-pub returns-in_err-name-clause-missing : goal.returns-in_err-name-clause-missing
-returns-in_err-name-clause-missing c = λ rest e chars.
-    let x = c.in_err-name.field-0.0 in
-    let same : c.in-Some.start.now ≡ rest = same_others (sym c.in-Some.ensures ∙ e) in
-    failed c.from_residual.result (λ y. OnBroken y (NoName rest)) x c.from_residual.ensures.1
-    (broken_map x (NoName c.in-Some.start.now) (NoName rest) (subst NoName same) (c.in_err-name.ensures.missing (subst IsChars (sym same) chars)))
-
 pub returns-in_default-clause-ok : goal.returns-in_default-clause-ok
 returns-in_default-clause-ok c = tt
 
@@ -60,9 +36,3 @@ returns-in_err-name-clause-ok c = failed_ok _ _ _ c.from_residual.ensures.1
 
 pub returns-clause-no : goal.returns-clause-no
 returns-clause-no c = tt
-
-pub returns-clause-begun : goal.returns-clause-begun
-returns-clause-begun c = λ rest e. tt
-
-pub returns-clause-missing : goal.returns-clause-missing
-returns-clause-missing c = λ rest e chars. tt

@@ -1,34 +1,29 @@
-use Rattle.std.proofs.Common.{◌≡◌, ◌≢◌, ◌++◌, [], List, ℕ, refl, ap, arith, length, true, false, rules}
+use Rattle.std.proofs.Common.{◌≡◌, ◌++◌, [], List, ℕ, refl, ap, arith, length, true, false, rules}
 use Rattle.tc_base.specs.declared.reasons.Why.{Why}
 use Rattle.tc_base.specs.declared.reasons.Why.TheVariants.{EntityReference}
 use Rattle.tc_model.specs.XmlTextReferences.{QuotedAt, closed}
 use Rattle.tc_model.specs.XmlTextRefusals.{QuotedRefuses}
-use Rattle.tc_stream.specs.Begun.{ValueBegun, QuotedBegun, no_quote, behind_quote}
-use Rattle.tc_stream.specs.Forms.{Refuses, UnsupportedAt, OnMalformed, OnShort, OnBroken}
-use Rattle.tc_stream.specs.Missing.{NoPiece, NoQuoted}
+use Rattle.tc_stream.specs.Forms.{Refuses, UnsupportedAt, OnMalformed}
 use Rattle.tc_stream.proofs.FormLaws.{failed, refuse_both, unsupported_map, of_refuses, step_none, step_more, no_quoted, quoted_refuses, no_quote_refused, no_quoted_refused}
-use Rattle.tc_stream.proofs.MissingLaws.{no_value_open}
-use Rattle.tc_stream.proofs.OpenLaws.{short_map, broken_map, value_kept_none, value_kept_more, no_quote_there, inside_chars}
 use Rattle.tc_stream.proofs.TagReadLaws.{stop_refuses, stop_stands, stop_malformed}
 use Rattle.tc_stream.proofs.ValueLaws.{piece_shorter, text_past_piece}
 use Rattle.tc_stream.proofs.FailedLaws.{failed_ok}
 use Rattle.tc_stream.proofs.tags.value_at.Goals as goal
 
 pub returns-in_default-clause-no : goal.returns-in_default-clause-no
-returns-in_default-clause-no c = stop_refuses c.lacking.result _ _ c.lacking.ensures.stop (λ v after a. c.in_default.ensures a.quote a.rest a.is_quote a.opens)
+returns-in_default-clause-no c = stop_refuses c.lacking.result _ _ c.lacking.ensures (λ v after a. c.in_default.ensures a.quote a.rest a.is_quote a.opens)
 
 pub returns-in_default-clause-stands : goal.returns-in_default-clause-stands
-returns-in_default-clause-stands c = stop_stands c.args.total c.lacking.result _ c.lacking.ensures.stop
+returns-in_default-clause-stands c = stop_stands c.args.total c.lacking.result _ c.lacking.ensures
 
 pub returns-in_default-clause-malformed : goal.returns-in_default-clause-malformed
-returns-in_default-clause-malformed c = stop_malformed c.lacking.result _ c.lacking.ensures.stop (no_quote_refused c.args.text.now c.in_default.ensures)
+returns-in_default-clause-malformed c = stop_malformed c.lacking.result _ c.lacking.ensures (no_quote_refused c.args.text.now c.in_default.ensures)
 
 pub loop-after-init : goal.loop-after-init
 loop-after-init c = record {
   step = ([], step_none c.in-Some.quote c.in-Some.inside.now);
   text = search rules;
   within = let long = ap length c.in-Some.ensures.1 in let fits = c.requires in omega (arith, long, fits);
-  kept = value_kept_none c.in-Some.quote c.in-Some.inside.now;
 }
 
 pub returns-in-Some-after_byte-clause-ok : goal.returns-in-Some-after_byte-clause-ok
@@ -89,33 +84,7 @@ loop-after-preserved c =
       step = (read ++ piece, step_more c.in-Some.quote c.in-Some.inside.now read (read ++ piece) c.loop-after.rest.now c.in_ok-rest.rest.now c.in-Some.ensures.0 step (piece, a, refl));
       text = text_past_piece c.in-Some.quote c.loop-after.rest.now piece c.in_ok-rest.rest.now c.in-Some.ensures.0 a c.loop-after.invariant.text;
       within = let less = piece_shorter c.in-Some.quote c.loop-after.rest.now piece c.in_ok-rest.rest.now a in let fits = c.loop-after.invariant.within in omega (arith, less, fits);
-      kept = value_kept_more c.in-Some.quote c.in-Some.inside.now c.loop-after.rest.now c.in_ok-rest.rest.now piece c.in-Some.ensures.0 c.loop-after.invariant.kept a;
     }
-
-pub returns-in_default-clause-begun : goal.returns-in_default-clause-begun
-returns-in_default-clause-begun c = let text = c.args.text.now in short_map c.lacking.result (text ≡ []) (QuotedBegun text) (λ h. no_quote h) c.lacking.ensures.short
-
-pub returns-in_default-clause-missing : goal.returns-in_default-clause-missing
-returns-in_default-clause-missing c = λ chars.
-    let text = c.args.text.now in broken_map c.lacking.result (text ≢ []) (NoQuoted text) (λ h. no_quote_there text h c.in_default.ensures) c.lacking.ensures.broken
-
-pub returns-in_err-rest-clause-begun : goal.returns-in_err-rest-clause-begun
-returns-in_err-rest-clause-begun c =
-    let t = c.args.text.now in
-    let x = c.in_err-rest.field-0.0 in
-    failed c.from_residual.result (λ e. OnShort e (QuotedBegun t)) x c.from_residual.ensures.1
-    (short_map x (ValueBegun c.in-Some.quote c.loop-after.rest.now) (QuotedBegun t)
-    (λ h. behind_quote c.in-Some.quote c.in-Some.inside.now c.in-Some.ensures.1 c.in-Some.ensures.0 (c.loop-after.invariant.kept.begun h))
-    c.in_err-rest.ensures.begun)
-
-pub returns-in_err-rest-clause-missing : goal.returns-in_err-rest-clause-missing
-returns-in_err-rest-clause-missing c = λ chars.
-    let t = c.args.text.now in
-    let x = c.in_err-rest.field-0.0 in
-    let kept = c.loop-after.invariant.kept in
-    failed c.from_residual.result (λ e. OnBroken e (NoQuoted t)) x c.from_residual.ensures.1
-    (broken_map x (NoPiece c.in-Some.quote c.loop-after.rest.now) (NoQuoted t) (no_value_open c.in-Some.quote t c.in-Some.inside.now c.loop-after.rest.now c.in-Some.ensures.1 kept.stays)
-    (c.in_err-rest.ensures.missing (kept.chars (inside_chars c.in-Some.quote t c.in-Some.inside.now c.in-Some.ensures.0 c.in-Some.ensures.1 chars)) c.in_default-after_byte.ensures))
 
 pub returns-in_default-clause-ok : goal.returns-in_default-clause-ok
 returns-in_default-clause-ok c = tt
@@ -128,12 +97,6 @@ returns-in-Some-after_byte-clause-stands c = tt
 
 pub returns-in-Some-after_byte-clause-malformed : goal.returns-in-Some-after_byte-clause-malformed
 returns-in-Some-after_byte-clause-malformed c = tt
-
-pub returns-in-Some-after_byte-clause-begun : goal.returns-in-Some-after_byte-clause-begun
-returns-in-Some-after_byte-clause-begun c = tt
-
-pub returns-in-Some-after_byte-clause-missing : goal.returns-in-Some-after_byte-clause-missing
-returns-in-Some-after_byte-clause-missing c = λ _. tt
 
 pub returns-in_err-rest-clause-ok : goal.returns-in_err-rest-clause-ok
 returns-in_err-rest-clause-ok c = failed_ok _ _ _ c.from_residual.ensures.1

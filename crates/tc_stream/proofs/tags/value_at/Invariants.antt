@@ -1,6 +1,5 @@
 use Rattle.std.proofs.Common.{◌≤◌, List, ℕ, IsUtf8, length}
 use Rattle.tc_stream.proofs.FormLaws.{Step}
-use Rattle.tc_stream.proofs.OpenLaws.{ValueKept}
 use Rattle.tc_stream.proofs.tags.value_at.Given as goal
 
 abbrev pub invariant-loop-after : goal.invariant-loop-after
@@ -8,7 +7,6 @@ invariant-loop-after l = record {
   step : (read : List ℕ) × Step l.quote l.initial.rest read l.rest;
   text : IsUtf8 l.rest;
   within : length l.rest ≤ l.total;
-  kept : ValueKept l.quote l.initial.rest l.rest;
 }
 
 abbrev pub decreases-loop-after : goal.decreases-loop-after

@@ -22,15 +22,6 @@ returns-clause-stands c = c.form_of.ensures.stands
 pub returns-clause-malformed : goal.returns-clause-malformed
 returns-clause-malformed c = c.form_of.ensures.malformed
 
-pub returns-clause-begun : goal.returns-clause-begun
-returns-clause-begun c = c.form_of.ensures.begun
-
-pub returns-clause-refused : goal.returns-clause-refused
-returns-clause-refused c = c.form_of.ensures.refused
-
-pub returns-clause-missing : goal.returns-clause-missing
-returns-clause-missing c = c.form_of.ensures.missing
-
 pub form_of-requires : goal.form_of-requires
 form_of-requires c = c.requires
 

@@ -1,4 +1,5 @@
 use Rattle.std.proofs.Common.{◌≤◌, ◌+◌, ◌∙◌, refl, sym, arith}
+use Rattle.tc_stream.proofs.DeepReads.{deep_name_begins}
 use Rattle.tc_stream.proofs.MarkupReads.{start_tag_begins, tag_behind_breaks, tag_breaks}
 use Rattle.tc_stream.proofs.reader.Reader.begin_tag.Goals as goal
 
@@ -15,7 +16,14 @@ pub returns-clause-ok : goal.returns-clause-ok
 returns-clause-ok c = record {
   ready = c.requires.ready;
   reads = λ x chars char r.
-      start_tag_begins c.args.next (record { begun = refl; elements = refl; phase = refl }) c.requires.part refl c.in_default.not-End (sym c.is_ncname_start.ensures ∙ c.if-not-is_ncname_start.false) c.keep_first.ensures.bytes char r;
+      start_tag_begins c.args.next (record { begun = refl; elements = refl; phase = refl }) c.requires.part refl c.in_default.not-End (c.if-is_full.ensures.room refl) (sym c.is_ncname_start.ensures ∙ c.if-not-is_ncname_start.false) c.keep_first.ensures.bytes char r;
+}
+
+pub returns-then-is_full-clause-ok : goal.returns-then-is_full-clause-ok
+returns-then-is_full-clause-ok c = record {
+  ready = c.requires.ready;
+  reads = λ x chars char r.
+      deep_name_begins c.args.next (record { begun = refl; elements = refl; phase = refl }) c.requires.part refl (c.if-is_full.ensures.full.0 refl) (sym c.is_ncname_start.ensures ∙ c.if-not-is_ncname_start.false) char r;
 }
 
 pub returns-in-End-clause-ok : goal.returns-in-End-clause-ok

@@ -7,10 +7,7 @@ pub tag_fault-requires-clause-short : goal.tag_fault-requires-clause-short
 tag_fault-requires-clause-short c =
     let s = c.args.self.now in front_short 65536 (subst (λ z. FrontOf z c.characters-tag.result.now) c.bytes.ensures c.characters-tag.ensures) (room_low s.tag s.tag_room)
 
-pub returns-clause-told : goal.returns-clause-told
-returns-clause-told c = (c.characters-tag.result.now, subst (λ z. FrontOf z c.characters-tag.result.now) c.bytes.ensures c.characters-tag.ensures, c.tag_fault.ensures)
-
-pub returns-clause-unended : goal.returns-clause-unended
-returns-clause-unended c = λ short x chars r quote reads is last.
+pub returns : goal.returns
+returns c = λ x chars r quote reads is last.
     let tag = c.characters-tag.result.now in
-    kept_start_ended x c.args.self.now chars r tag quote c.args.is_long c.tag_fault.result short reads is last (subst (λ z. FrontOf z tag) c.bytes.ensures c.characters-tag.ensures) c.tag_fault.ensures
+    kept_start_ended x c.args.self.now chars r tag quote c.tag_fault.result reads is last (subst (λ z. FrontOf z tag) c.bytes.ensures c.characters-tag.ensures) c.tag_fault.ensures

@@ -12,9 +12,9 @@ start-requires-clause-short c =
     let s = c.args.self.now in front_short 65536 (subst (λ z. FrontOf z c.characters-tag.result.now) c.bytes.ensures c.characters-tag.ensures) (room_low s.tag s.tag_room)
 
 pub returns-in_err-start-clause-fault : goal.returns-in_err-start-clause-fault
-returns-in_err-start-clause-fault c = λ x chars w t.
+returns-in_err-start-clause-fault c = λ x chars w t room.
     let both = start_by (subst (λ z. FrontOf z c.characters-tag.result.now) c.bytes.ensures c.characters-tag.ensures) w t in
-    failed c.from_residual.result c.in_err-start.field-0.0 (λ e. IsFaultOfFront chars e) c.from_residual.ensures.1 (c.in_err-start.ensures.fault x chars both.0 both.1)
+    failed c.from_residual.result c.in_err-start.field-0.0 (λ e. IsFaultOfFront chars e) c.from_residual.ensures.1 (c.in_err-start.ensures.fault x chars both.0 both.1 room)
 
 pub returns-clause-ready : goal.returns-clause-ready
 returns-clause-ready c = subst IsReady (sym c.leave_tag.ensures.elements) c.in_ok-start.ensures.ready
@@ -31,4 +31,4 @@ pub returns-in_err-start-clause-ok : goal.returns-in_err-start-clause-ok
 returns-in_err-start-clause-ok c = λ x chars w t. failed_ok _ _ _ c.from_residual.ensures.1
 
 pub returns-clause-fault : goal.returns-clause-fault
-returns-clause-fault c = λ x chars w t. tt
+returns-clause-fault c = λ x chars w t room. tt

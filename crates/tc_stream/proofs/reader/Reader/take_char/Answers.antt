@@ -62,10 +62,28 @@ read_declaration-requires-clause-part c = c.requires.part ∙ c.in-Declaration.i
 pub read_doctype-requires-clause-part : goal.read_doctype-requires-clause-part
 read_doctype-requires-clause-part c = c.requires.part ∙ c.in-Doctype.is
 
+pub read_deep_name-requires-clause-part : goal.read_deep_name-requires-clause-part
+read_deep_name-requires-clause-part c = c.requires.part ∙ c.in-DeepName.is
+
+pub returns-in-DeepName-clause-ok : goal.returns-in-DeepName-clause-ok
+returns-in-DeepName-clause-ok c = placed_ok c.args.self.now c.read_deep_name.new.self c.args.place c.args.next c.read_deep_name.result c.read_deep_name.ensures.ok
+
+pub returns-in-DeepName-clause-fault : goal.returns-in-DeepName-clause-fault
+returns-in-DeepName-clause-fault c = placed_fault c.args.self.now c.args.place c.args.next c.read_deep_name.result c.read_deep_name.ensures.fault
+
+pub read_deep_local-requires-clause-part : goal.read_deep_local-requires-clause-part
+read_deep_local-requires-clause-part c = c.requires.part ∙ c.in-DeepPrefix.is
+
+pub returns-in-DeepPrefix-clause-ok : goal.returns-in-DeepPrefix-clause-ok
+returns-in-DeepPrefix-clause-ok c = placed_ok c.args.self.now c.read_deep_local.new.self c.args.place c.args.next c.read_deep_local.result c.read_deep_local.ensures.ok
+
+pub returns-in-DeepPrefix-clause-fault : goal.returns-in-DeepPrefix-clause-fault
+returns-in-DeepPrefix-clause-fault c = placed_fault c.args.self.now c.args.place c.args.next c.read_deep_local.result c.read_deep_local.ensures.fault
+
 pub returns-in_default-clause-ok : goal.returns-in_default-clause-ok
 returns-in_default-clause-ok c =
     absurd (no_other c.args.part c.requires.by_char c.in_default.not-Markup c.in_default.not-Marked c.in_default.not-Mark c.in_default.not-Reference c.in_default.not-Target c.in_default.not-Targeted c.in_default.not-Declaration
-    c.in_default.not-Doctype)
+    c.in_default.not-Doctype c.in_default.not-DeepName c.in_default.not-DeepPrefix)
 
 pub returns-in_default-clause-fault : goal.returns-in_default-clause-fault
 returns-in_default-clause-fault c = tt
