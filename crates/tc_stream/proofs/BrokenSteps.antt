@@ -32,10 +32,6 @@ use Rattle.tc_stream.proofs.SplitLaws.{white_none}
 use Rattle.tc_stream.proofs.NothingSteps.{nothing_step, front_nothing}
 use Rattle.tc_stream.proofs.HopelessSteps.{content_other, Hopeless, IsNoOther, StandsIn, in_front, in_prolog, in_root, in_content, past_root, hopeless_step, hopeless_last}
 
--- bytes that go on otherwise than a mark, or are shorter than it
-pub differs : (m left f r : List ℕ) (b c : ℕ) → (c ≡ b → ⊥) → m ++ c ∷ f ≡ (m ++ b ∷ left) ++ r → ⊥
-differs m left f r b c n e = n (same_first (append_cancel_left m (c ∷ f) (b ∷ (left ++ r)) (e ∙ append_assoc m (b ∷ left) r)))
-
 pub too_short : (bs mark r : List ℕ) → length bs < length mark → bs ≡ mark ++ r → ⊥
 too_short bs mark r low e = omega (arith, low, ap length e, length-append mark r)
 

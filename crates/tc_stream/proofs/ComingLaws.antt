@@ -24,7 +24,7 @@ use Rattle.tc_stream.specs.Goes as g
 use Rattle.tc_stream.specs.From.{FromFront, declaration, prolog, root}
 use Rattle.tc_stream.specs.From as from
 use Rattle.tc_stream.proofs.LengthLaws.{comes_within, form_within, end_tag_within, item_within, content_within}
-use Rattle.tc_stream.proofs.CharacterLaws.{at_most_or_more}
+use Rattle.tc_stream.proofs.LengthLaws.{at_most_or_more}
 use Rattle.tc_stream.proofs.TagLaws.{EndsAt, open_end, empty_end, ends_at, ends_shorter, form_of}
 use Rattle.tc_stream.proofs.LongLaws.{long_form, long_end_tag}
 use Rattle.tc_stream.proofs.OneOutcome.{opened}

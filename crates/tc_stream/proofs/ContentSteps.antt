@@ -1,5 +1,5 @@
 -- What still comes of a text, over each item that has ended and over one that can't go on.
-use Rattle.std.proofs.Common.{◌≡◌, ℕ, ◌<◌, ◌+◌, true, false, List, [], ◌∷◌, ◌++◌, refl, ap, subst, length, arith, codes}
+use Rattle.std.proofs.Common.{◌≡◌, ℕ, ◌<◌, ◌+◌, true, false, List, [], ◌∷◌, ◌++◌, ap, subst, length, arith}
 use Rattle.std.specs.Prelude.{◌↔◌}
 use Rattle.std.specs.List.{list_all}
 use Rattle.tc_model.specs.Names.{ExpandedName, IsChars}
@@ -7,17 +7,14 @@ use Rattle.tc_model.specs.RawTrees.{Bound}
 use Rattle.tc_model.specs.Trees.{Trees}
 use Rattle.tc_model.specs.XmlTextBytes.{FrontOf, line_ends}
 use Rattle.tc_model.specs.XmlTextReferences.{is_plain, ReferenceAt, CdataAt}
-use Rattle.tc_model.specs.XmlTextMisc.{InstructionAt}
 use Rattle.tc_model.proofs.XmlTextPhrases.{same_first}
-use Rattle.tc_model.proofs.XmlTextUnique.{kind, markup, bang}
 use Rattle.tc_stream.specs.Outcomes.{Outcome}
-use Rattle.tc_stream.specs.Goes.{Level, Goes}
+use Rattle.tc_stream.specs.Goes.{Level}
 use Rattle.tc_stream.specs.From.{Standing, open_in, ended, FromPhase, StillComes}
-use Rattle.tc_stream.specs.Scans.{before, going, broken, comment_scan, cdata_scan}
+use Rattle.tc_stream.specs.Scans.{going, cdata_scan}
 use Rattle.tc_stream.specs.declared.phases.Phase.{Phase}
 use Rattle.tc_stream.specs.declared.phases.Phase.TheVariants as phases
-use Rattle.tc_stream.proofs.OneOutcome.{AtComment, remark, at_comment}
-use Rattle.tc_stream.proofs.StepLaws.{comes_past, comes_back, front_past, over_comment, over_instruction, over_section, over_reference, comment_whole, no_comment}
+use Rattle.tc_stream.proofs.StepLaws.{comes_past, comes_back, over_section, over_reference}
 use Rattle.tc_stream.proofs.TextLaws.{StopsRun, text_whole, over_text}
 use Rattle.tc_stream.proofs.MiscSteps.{IsMisc, over_prolog, over_end}
 
@@ -29,17 +26,6 @@ step_both n item r phase next s u o chars step =
     (comes_past n item r phase next s u o chars (λ total f k. (step total f k).0), comes_back n item r phase next s u o chars (λ total f k. (step total f k).1))
 
 -- in content
-
-pub comment_step : (n : ℕ) (w r : List ℕ) (l : Level) (ls : List Level) (scope : List Bound) (run : List ℕ) (o : Outcome) → IsChars (codes "<!--" ++ w) → comment_scan 0 w ≡ before []
-    → StillComes n phases.Content (open_in (l ∷ ls) scope run) ((codes "<!--" ++ w) ++ r) o ↔ StillComes (n + length (codes "<!--" ++ w)) phases.Content (open_in (l ∷ ls) scope run) r o
-comment_step n w r l ls scope run o chars e =
-    step_both n (codes "<!--" ++ w) r phases.Content phases.Content (open_in (l ∷ ls) scope run) (open_in (l ∷ ls) scope run) o chars
-    (λ total f k. over_comment (codes "<!--" ++ w) total l ls scope run f o (comment_whole w f e))
-
-pub instruction_step : (n : ℕ) (item r : List ℕ) (l : Level) (ls : List Level) (scope : List Bound) (run : List ℕ) (o : Outcome) → IsChars item → ((f : List ℕ) → InstructionAt (item ++ f) f)
-    → StillComes n phases.Content (open_in (l ∷ ls) scope run) (item ++ r) o ↔ StillComes (n + length item) phases.Content (open_in (l ∷ ls) scope run) r o
-instruction_step n item r l ls scope run o chars a =
-    step_both n item r phases.Content phases.Content (open_in (l ∷ ls) scope run) (open_in (l ∷ ls) scope run) o chars (λ total f k. over_instruction item total l ls scope run f o (a f))
 
 pub section_step : (n : ℕ) (item inside r : List ℕ) (l : Level) (ls : List Level) (scope : List Bound) (run : List ℕ) (o : Outcome) → IsChars item → ((f : List ℕ) → CdataAt (item ++ f) inside f)
     → StillComes n phases.Content (open_in (l ∷ ls) scope run) (item ++ r) o ↔ StillComes (n + length item) phases.Content (open_in (l ∷ ls) scope (run ++ line_ends inside)) r o
@@ -64,20 +50,6 @@ text_step n w r brackets l ls scope run o chars some plain e stops =
     (λ total f k. over_text w total l ls scope run f o (text_whole w f brackets some plain e (stops_front r f stops k)))
 
 -- what can't go on
-
-comment_begins : (w f : List ℕ) → kind ((codes "<!--" ++ w) ++ f) ≡ 5
-unfolding kind markup bang
-comment_begins w f = refl
-
-none_there : {total : ℕ} (w f : List ℕ) (l : Level) (ls : List Level) (scope : List Bound) (run : List ℕ) {o : Outcome} → comment_scan 0 w ≡ broken
-    → AtComment total l ls scope run ((codes "<!--" ++ w) ++ f) o → ⊥
-none_there w f l ls scope run e (remark {rest = rest} a h) = no_comment w f rest e a
-
-pub comment_broken : (n : ℕ) (w r : List ℕ) (l : Level) (ls : List Level) (scope : List Bound) (run : List ℕ) (o : Outcome) → IsChars (codes "<!--" ++ w) → comment_scan 0 w ≡ broken
-    → StillComes n phases.Content (open_in (l ∷ ls) scope run) ((codes "<!--" ++ w) ++ r) o → ⊥
-comment_broken n w r l ls scope run o chars e (front, k, go, whole) =
-    let b = front_past chars k in
-    none_there w b.rest l ls scope run e (at_comment (comment_begins w b.rest) (subst (λ z. Goes (n + length z) (l ∷ ls) scope run z o) b.whole go))
 
 -- before the root element and behind it
 

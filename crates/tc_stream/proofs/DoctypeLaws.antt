@@ -213,10 +213,6 @@ name_ends l cs h = by (white_or_not cs)
     by (inl w) = moved (some_white (in_name l) named cs (name_white l) named_white w) (white_encoded cs) (end_here named (after_white cs) refl refl end)
     by (inr e) = moved refl (white_encoded cs ∙ ap encode_utf8_all e) (end_here (in_name l) cs refl refl (subst (λ z. IsEnd (encode_utf8_all z)) e end))
 
-either_end : {bs r : List ℕ} → (bs ≡ 0x3E ∷ r) ⊎ (bs ≡ 0x5B ∷ r) → IsEnd bs
-either_end {r = r} (inl e) = inl (r, e)
-either_end {r = r} (inr e) = inr (r, e)
-
 external_ends : {past : List ℕ} (l : Bool) (cs : List ℕ) → ExternalIdAt (encode_utf8_all cs) past → IsEnd (after_white past) → TypeEnds (doctype_scan (in_name l) cs) (after_white past)
 external_ends l cs (no_id e) h = name_ends l cs h
 external_ends {past} l cs (system {rest = rest} {value = v} w is w' a) h =

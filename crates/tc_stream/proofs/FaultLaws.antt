@@ -7,13 +7,13 @@ use Rattle.tc_model.specs.RawTrees.{RawTrees}
 use Rattle.tc_model.specs.Stripped.{stripped}
 use Rattle.tc_model.specs.XmlText.{XmlText}
 use Rattle.tc_model.specs.XmlTextBytes.{FrontOf}
-use Rattle.tc_model.specs.XmlTextRefusals.{unsupported, too_deep, IsNotRefused}
+use Rattle.tc_model.specs.XmlTextRefusals.{unsupported, IsNotRefused}
 use Rattle.tc_model.proofs.XmlTextRefused.{whole_front}
-use Rattle.tc_stream.specs.XmlTextMeasures.{Measure, IsGood, PassesAt, PassesFirst, IsWithinMeasures}
+use Rattle.tc_stream.specs.XmlTextMeasures.{Measure, PassesAt, PassesFirst, IsWithinMeasures}
 use Rattle.tc_stream.specs.Outcomes.{Outcome, document, refused, passed, Comes}
 use Rattle.tc_stream.specs.Faults.{IsFaultOf}
 use Rattle.tc_stream.specs.declared.faults.StreamFault.TheVariants as faults
-use Rattle.tc_stream.proofs.CharacterLaws.{at_most_or_more}
+use Rattle.tc_stream.proofs.LengthLaws.{at_most_or_more}
 use Rattle.tc_stream.proofs.OutcomeLaws.{good_of}
 
 -- nothing comes of it
@@ -53,10 +53,3 @@ malformed_fault bytes place low nothing = (low, no_tree nothing, not_refused not
 
 pub unsupported_fault : (bytes : List ℕ) (place : Place) (why : Why) → Comes bytes (refused (unsupported why) place.0) → IsFaultOf bytes (faults.Unsupported place why)
 unsupported_fault bytes place why c = c
-
-pub deep_fault : (bytes : List ℕ) (place : Place) → Comes bytes (refused too_deep place.0) → IsFaultOf bytes (faults.TooDeep place)
-deep_fault bytes place c = c
-
--- a text that is good is no text with a fault
-pub good_no_fault : (bytes : List ℕ) (h : RawTrees) → IsGood bytes h → ComesToNothing bytes → ⊥
-good_no_fault bytes h good nothing = nothing (document (stripped h)) (h, good, refl)

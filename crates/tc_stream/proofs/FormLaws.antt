@@ -24,6 +24,7 @@ use Rattle.tc_stream.specs.Values as pieces
 use Rattle.tc_stream.specs.Values.{PieceAt}
 use Rattle.tc_stream.specs.declared.tags.NoForm.{NoForm}
 use Rattle.tc_stream.specs.declared.tags.NoForm.TheVariants.{Malformed, Unsupported}
+use Rattle.tc_stream.proofs.TagLaws.{quoted_loosened, reference_loosened}
 
 -- what is said of what is read
 
@@ -50,37 +51,11 @@ pub of_both : (e : NoForm) (A B P Q : Type 0) → (A → P → Q) → Refuses e 
 of_both (Malformed place) A B P Q f g h = f g h
 of_both (Unsupported place why) A B P Q f g h = tt
 
--- what is read without references to other entities is read so with them
-
-pub reference_loosened : {o : Bool} {bs s after : List ℕ} → ReferenceAt false bs s after → ReferenceAt o bs s after
-reference_loosened (decimal run h) = decimal run h
-reference_loosened (hexadecimal run h) = hexadecimal run h
-reference_loosened (entity a e) = entity a e
-reference_loosened (other h a e) = absurd (true≢false (sym h))
-
-value_loosened : {o : Bool} {quote : ℕ} {bs value after : List ℕ} → ValueAt false quote bs value after → ValueAt o quote bs value after
-value_loosened (closed e) = closed e
-value_loosened (plain run v) = plain run (value_loosened v)
-value_loosened (r.reference a v) = r.reference (reference_loosened a) (value_loosened v)
-
-pub quoted_loosened : {o : Bool} {bs value after : List ℕ} → QuotedAt false bs value after → QuotedAt o bs value after
-quoted_loosened a = record { quote = a.quote; rest = a.rest; is_quote = a.is_quote; opens = a.opens; closes = value_loosened a.closes }
-
-pub attributes_loosened : {o : Bool} {total : ℕ} {bs after : List ℕ} {attributes : List WrittenAttribute} → AttributesAt false total bs attributes after → AttributesAt o total bs attributes after
-attributes_loosened (no_more e) = no_more e
-attributes_loosened (attribute w a e v l) = attribute w a e (quoted_loosened v) (attributes_loosened l)
-
 -- values
-
-lift_reference : {bs s after : List ℕ} → ReferenceAt false bs s after → ReferenceAt true bs s after
-lift_reference (decimal a h) = decimal a h
-lift_reference (hexadecimal a h) = hexadecimal a h
-lift_reference (entity a h) = entity a h
-lift_reference (other h a k) = other refl a k
 
 pub lift_piece : {q : ℕ} {bs piece rest : List ℕ} → PieceAt false q bs piece rest → PieceAt true q bs piece rest
 lift_piece (pieces.plain a) = pieces.plain a
-lift_piece (pieces.reference a) = pieces.reference (lift_reference a)
+lift_piece (pieces.reference a) = pieces.reference (reference_loosened a)
 
 pub value_before : {o : Bool} {q : ℕ} {bs piece rest v after : List ℕ} → PieceAt o q bs piece rest → ValueAt o q rest v after → ValueAt o q bs (piece ++ v) after
 value_before (pieces.plain a) w = plain a w
@@ -361,12 +336,6 @@ tag_attributes : (text start behind : List ℕ) (written : QualifiedName) → te
 tag_attributes text start behind written e q why at a =
     let names = qname_unique (subst (λ z. QNameAt z a.written a.past_name) (same_others (sym a.opens ∙ e)) a.names) q in
     subst (λ z. AttributesRefuse z why at) names.1 a.attributes
-
-pub no_opening_refused : (text : List ℕ) → ((rest : List ℕ) → text ≡ 0x3C ∷ rest → ⊥) → (why : Why) (at : List ℕ) → TagRefuses text why at → ⊥
-no_opening_refused text h why at a = h a.rest a.opens
-
-pub no_tag_name_refused : (text start : List ℕ) → text ≡ 0x3C ∷ start → ((n : QualifiedName) (after : List ℕ) → QNameAt start n after → ⊥) → (why : Why) (at : List ℕ) → TagRefuses text why at → ⊥
-no_tag_name_refused text start e h why at a = h a.written a.past_name (subst (λ z. QNameAt z a.written a.past_name) (same_others (sym a.opens ∙ e)) a.names)
 
 pub no_list_refused : (text start behind : List ℕ) (written : QualifiedName) → text ≡ 0x3C ∷ start → QNameAt start written behind
     → ((why : Why) (at : List ℕ) → AttributesRefuse behind why at → ⊥) → (why : Why) (at : List ℕ) → TagRefuses text why at → ⊥

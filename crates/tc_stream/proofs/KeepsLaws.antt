@@ -94,9 +94,6 @@ is_full e {ls} k h = let none : 2000 - length ls ≡ 0 = omega (arith, h, as_dee
 pub has_room : (e : Elements) {ls : List Level} {scope : List Bound} → Keeps e ls scope → length e.levels.items < 2000 → 0 < depth_left ls
 has_room e {ls} k h = let some : 0 < 2000 - length ls = omega (arith, h, as_deep k) in some
 
-pub is_deep : {names : List ℕ} {declared : List Declared} {chains : List ℕ} {cs : List code.Level} {ls : List Level} {scope : List Bound} → IsKept names declared chains cs ls scope → length ls ≤ 2000
-is_deep k = k.are_open.deep
-
 pub none_kept : {names : List ℕ} {declared : List Declared} {chains : List ℕ} {cs : List code.Level} {scope : List Bound} → IsKept names declared chains cs [] scope → cs ≡ []
 none_kept {names} {declared} {chains} {cs} {scope} k = by cs (as_deep k)
   where

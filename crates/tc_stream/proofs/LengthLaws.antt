@@ -1,8 +1,8 @@
 -- What follows a phrase is no longer than what the phrase stands in.
-use Rattle.std.proofs.Common.{◌≡◌, ℕ, ◌<◌, ◌≤◌, ◌+◌, ◌-◌, Bool, true, false, cond, List, [], ◌∷◌, ap, ◌∙◌, length, drop, arith, codes, length-append, length-drop}
+use Rattle.std.proofs.Common.{◌≡◌, inl, inr, ◌⊎◌, ℕ, ◌<◌, ◌≤◌, ◌+◌, ◌-◌, Bool, true, false, cond, List, [], ◌∷◌, ap, ◌∙◌, length, drop, arith, codes, length-append, length-drop}
 use Rattle.std.specs.List.{prefix_len}
+use Rattle.std.proofs.lemmas.Bool.{cases_lt}
 use Rattle.tc_base.specs.Characters.{is_white}
-use Rattle.tc_base.specs.declared.reasons.Why.{Why}
 use Rattle.tc_model.specs.Names.{ExpandedName}
 use Rattle.tc_model.specs.RawTrees.{Attribute, Bound, RawTrees}
 use Rattle.tc_model.specs.XmlText.{after_mark}
@@ -14,10 +14,7 @@ use Rattle.tc_model.specs.XmlTextMisc.{CommentAt, InstructionAt, SettingAt, Enco
 use Rattle.tc_model.specs.XmlTextMisc as m
 use Rattle.tc_model.specs.XmlTextScopes.{WrittenAttribute}
 use Rattle.tc_model.specs.XmlTextContent.{Piece, AttributesAt, no_more, attribute, TagAt, ContentAt, at_end_tag, item, ItemAt, character_data, reference, cdata, comment, instruction, child, ElementAt, empty_tag, with_content}
-use Rattle.tc_model.specs.XmlTextRefusals.{Cause, ValueRefuses, past_run, past_reference, AttributesRefuse, space, value, past_attribute, TagRefuses, ContentRefuses, past_item, ElementRefuses, depth, tag, inside}
-use Rattle.tc_model.specs.XmlTextRefusals as f
-use Rattle.tc_stream.specs.XmlTextTags.{WrittenElement, TagFormAt, EndTagAt, WholeTagAt, ComesTo, to_root, into_element, past_item as past_one}
-use Rattle.tc_stream.specs.XmlTextTags as t
+use Rattle.tc_stream.specs.XmlTextTags.{WrittenElement, TagFormAt, EndTagAt, ComesTo, to_root, into_element, past_item as past_one}
 
 pub white_within : (bs : List ℕ) → length (after_white bs) ≤ length bs
 white_within bs = omega (arith, length-drop (prefix_len is_white bs) bs)
@@ -66,11 +63,6 @@ form_within a = omega (arith, ap length a.opens, qname_within a.names, attribute
 pub end_tag_within : {n : QualifiedName} {bs after : List ℕ} → EndTagAt n bs after → length after < length bs
 end_tag_within a = omega (arith, ap length a.opens, qname_within a.names, white_within a.past_name, ap length a.closes)
 
-pub whole_within : {total : ℕ} {bs after : List ℕ} → WholeTagAt total bs after → length after < length bs
-whole_within (t.start_tag a) = omega (arith, form_within a)
-whole_within (t.empty_tag a) = omega (arith, form_within a)
-whole_within (t.end_tag a) = end_tag_within a
-
 pub tag_within : {o : Bool} {total : ℕ} {outer : List Bound} {bs after : List ℕ} {w : QualifiedName} {scope : List Bound} {n : ExpandedName} {e : List Attribute}
     → TagAt o total outer bs w scope n e after → length after < length bs
 tag_within a = omega (arith, ap length a.opens, qname_within a.names, attributes_within a.lists)
@@ -99,31 +91,6 @@ mutual
   element_within (with_content {inside = i} {past_name = p} a m b e) = omega (arith, tag_within a, content_within m, qname_within b, ap length e, white_within p)
 
 -- what is refused stands within
-
-pub value_refused_within : {q : ℕ} {bs at : List ℕ} → ValueRefuses q bs at → length at ≤ length bs
-value_refused_within (f.entity o) = omega arith
-value_refused_within (past_run a h) = omega (arith, run_within a, value_refused_within h)
-value_refused_within (past_reference a h) = omega (arith, reference_within a, value_refused_within h)
-
-pub attributes_refused_within : {bs at : List ℕ} {why : Why} → AttributesRefuse bs why at → length at ≤ length bs
-attributes_refused_within {bs} (space w n) = white_within bs
-attributes_refused_within {bs} (value w n h e q) = omega (arith, white_within bs, qname_within n, equals_within e, ap length q.opens, value_refused_within q.refuses)
-attributes_refused_within {bs} (past_attribute w n h e q l) =
-    omega (arith, white_within bs, qname_within n, equals_within e, ap length q.opens, value_within q.closes, attributes_refused_within l)
-
-pub tag_refused_within : {bs at : List ℕ} {why : Why} → TagRefuses bs why at → length at < length bs
-tag_refused_within a = omega (arith, ap length a.opens, qname_within a.names, attributes_refused_within a.attributes)
-
-mutual
-  pub content_refused_within : {total d : ℕ} {outer : List Bound} {bs at : List ℕ} {c : Cause} → ContentRefuses total outer d bs c at → length at ≤ length bs
-  content_refused_within (f.entity o) = omega arith
-  content_refused_within (f.child k) = element_refused_within k
-  content_refused_within (past_item a k) = omega (arith, item_within a, content_refused_within k)
-
-  pub element_refused_within : {total d : ℕ} {outer : List Bound} {bs at : List ℕ} {c : Cause} → ElementRefuses total outer d bs c at → length at ≤ length bs
-  element_refused_within (depth q) = omega arith
-  element_refused_within (tag k) = omega (arith, tag_refused_within k)
-  element_refused_within (inside a k) = omega (arith, tag_within a, content_refused_within k)
 
 -- what stands before the root element
 
@@ -173,3 +140,11 @@ pub comes_within : {text bs : List ℕ} {es : List WrittenElement} {scope : List
 comes_within {text} (to_root d m r) = omega (arith, mark_within text, declaration_within d, misc_within m, doctype_within r)
 comes_within (into_element c a m) = omega (arith, comes_within c, form_within a)
 comes_within (past_one c i) = omega (arith, comes_within c, item_within i)
+
+-- one of two orders
+pub at_most_or_more : (a b : ℕ) → (a ≤ b) ⊎ (b < a)
+at_most_or_more a b = by (cases_lt b a)
+  where
+    by : (b < a) ⊎ (a ≤ b) → (a ≤ b) ⊎ (b < a)
+    by (inl h) = inr h
+    by (inr h) = inl h

@@ -1,6 +1,5 @@
 pub mod MeasureLaws
 pub mod LengthLaws
-pub mod CharacterLaws
 pub mod TagLaws
 pub mod LongLaws
 pub mod OneOutcome

@@ -3,28 +3,15 @@ use Rattle.std.proofs.Common.{◌≡◌, ℕ, zero, suc, ◌+◌, ◌<◌, Bool,
 use Rattle.std.specs.Prelude.{unwrap_or}
 use Rattle.std.specs.List.{IsDistinct, AllByRecursion, list_any}
 use Rattle.std.specs.Cmp.Lexicographic.{bytes_decides}
-use Rattle.std.proofs.lemmas.Bool.{true≢false, false_from_ne_true}
+use Rattle.std.proofs.lemmas.Bool.{true≢false}
 use Rattle.std.proofs.lemmas.List.{reverse-append, map_more, take_more, drop_more, get_or-map, length-map}
 use Rattle.tc_stream.specs.Chained.{chain_of, first_such}
-use Rattle.tc_stream.specs.Listed.{Parts, same_parts, is_declared, uri_bytes, parts, chain_of_parts, chains_of_parts, has_parts, parts_before, all_parts, is_among}
+use Rattle.tc_stream.specs.Listed.{Parts, same_parts, uri_bytes, parts, chain_of_parts, chains_of_parts, has_parts, parts_before, all_parts, is_among}
 use Rattle.tc_stream.specs.declared.attributes.Attribute.{Attribute}
 use Rattle.tc_stream.specs.Scoped.{bound_by}
-use Rattle.tc_stream.specs.Spans.{at_span}
 use Rattle.tc_stream.specs.declared.attributes.Sort.{Sort}
-use Rattle.tc_stream.specs.declared.attributes.Sort.TheVariants as sorts
 use Rattle.tc_stream.specs.declared.scopes.Declared.{Declared}
 use Rattle.tc_stream.proofs.ChainLaws.{Follows}
-
--- equality of bytes and of names, turned round
-pub bytes_eq_turned : (a b : List ℕ) → bytes_eq a b ≡ bytes_eq b a
-bytes_eq_turned a b = by (bytes_eq a b) refl
-  where
-    by : (x : Bool) → bytes_eq a b ≡ x → bytes_eq a b ≡ bytes_eq b a
-    by true e = e ∙ sym ((bytes_decides b a).1 (sym ((bytes_decides a b).0 e)))
-    by false e = e ∙ sym (false_from_ne_true (bytes_eq b a) (λ f. true≢false (sym ((bytes_decides a b).1 (sym ((bytes_decides b a).0 f))) ∙ e)))
-
-same_turned : (p q : Parts) → same_parts p q ≡ same_parts q p
-same_turned p q = ap (λ x. x && bytes_eq p.1 q.1) (bytes_eq_turned p.0 q.0) ∙ ap (λ x. bytes_eq q.0 p.0 && x) (bytes_eq_turned p.1 q.1)
 
 both_true : (x y : Bool) → x && y ≡ true → (x ≡ true) × (y ≡ true)
 both_true true true e = (refl, refl)
@@ -85,28 +72,9 @@ there_is [] k d = refl
 there_is (x ∷ xs) zero d = refl
 there_is (x ∷ xs) (suc k) d = there_is xs k d
 
--- the namespace name of an attribute
-pub uri_empty : (names : List ℕ) (declared : List Declared) (p q : List ℕ) → p ≡ q → true ≡ bytes_eq p [] → [] ≡ uri_bytes names declared q
-uri_empty names declared p q e f = ap (λ b. cond b [] (unwrap_or (bound_by (reverse declared) names q) [])) (f ∙ ap (λ z. bytes_eq z []) e)
-
 pub uri_bound : (names : List ℕ) (declared : List Declared) (p q : List ℕ) (o : Option (List ℕ)) → p ≡ q → false ≡ bytes_eq p [] → o ≡ bound_by (reverse declared) names p → unwrap_or o [] ≡ uri_bytes names declared q
 uri_bound names declared p q o e f g =
     ap (λ x. unwrap_or x []) (g ∙ ap (bound_by (reverse declared) names) e) ∙ ap (λ b. cond b [] (unwrap_or (bound_by (reverse declared) names q) [])) (f ∙ ap (λ z. bytes_eq z []) e)
-
--- a declaration has no expanded name, any other attribute has one
-pub expanded_none : (tag names : List ℕ) (declared : List Declared) (a : Attribute) → is_declared (at_span a.prefix tag) (at_span a.local tag) ≡ true → parts sorts.Expanded tag names declared a ≡ None
-expanded_none tag names declared a e = ap (λ b. cond b None (Some (uri_bytes names declared (at_span a.prefix tag), at_span a.local tag))) e
-
-pub expanded_some : (tag names : List ℕ) (declared : List Declared) (a : Attribute) (u l : List ℕ) → is_declared (at_span a.prefix tag) (at_span a.local tag) ≡ false → u ≡ uri_bytes names declared (at_span a.prefix tag) → l ≡ at_span a.local tag
-    → parts sorts.Expanded tag names declared a ≡ Some (u, l)
-expanded_some tag names declared a u l e f g =
-    let make : List ℕ → List ℕ → Option Parts = λ x y. Some (x, y) in
-    ap (λ b. cond b None (Some (uri_bytes names declared (at_span a.prefix tag), at_span a.local tag))) e ∙ (ap (λ x. make x (at_span a.local tag)) (sym f) ∙ ap (make u) (sym g))
-
-pub written_some : (tag names : List ℕ) (declared : List Declared) (a : Attribute) (p l : List ℕ) → p ≡ at_span a.prefix tag → l ≡ at_span a.local tag → parts sorts.Written tag names declared a ≡ Some (p, l)
-written_some tag names declared a p l f g =
-    let make : List ℕ → List ℕ → Option Parts = λ x y. Some (x, y) in
-    ap (λ x. make x (at_span a.local tag)) (sym f) ∙ ap (make p) (sym g)
 
 module _ (s : Sort) (tag names : List ℕ) (declared : List Declared) where
   pub as_many_parts : (seen : List Attribute) (chains : List ℕ) → chains ≡ chains_of_parts s tag names declared seen → length chains ≡ length seen

@@ -2,7 +2,7 @@
 use Rattle.std.proofs.Common.{◌≡◌, ◌≢◌, inl, inr, ◌⊎◌, ℕ, zero, suc, ◌<◌, ◌≤◌, ◌+◌, ◌-◌, true, List, [], ◌∷◌, ◌++◌, refl, ap, ◌∙◌, sym, subst, length, take, drop, slice_index, arith, codes, IsTrue, append_assoc, take-append-drop}
 use Rattle.std.specs.Prelude.{encode_utf8, nat_le, nat_lt}
 use Rattle.std.specs.List.{list_all}
-use Rattle.std.proofs.lemmas.Bool.{and_parts, and_from, cases_lt, ltb-true, leb-true, lt-ltb, le-leb}
+use Rattle.std.proofs.lemmas.Bool.{and_parts, cases_lt, ltb-true}
 use Rattle.std.proofs.lemmas.List.{append_cancel_left, length-take-le, take_all, take_more, drop_more}
 use Rattle.tc_base.specs.Characters.{is_char}
 use Rattle.tc_base.specs.declared.Place.{Place}
@@ -210,13 +210,3 @@ pub counted_three : (mark : Mark) → IsTrue (is_counted (parts.Mark mark 3))
 counted_three marks.Comment = refl
 counted_three marks.Cdata = refl
 counted_three marks.Doctype = refl
-
-pub counted_more : (part : Part) (mark : Mark) (count more : ℕ) → IsTrue (is_counted part) → part ≡ parts.Mark mark count → more ≡ count + 1 → (length (mark_of mark) ≤ more → ⊥) → IsTrue (is_counted (parts.Mark mark more))
-counted_more part mark count more h e is short = by (cases_lt more (length (mark_of mark)))
-  where
-    three : 3 ≤ count
-    three = leb-true 3 count (and_parts (nat_le 3 count) (nat_lt count (length (mark_of mark))) (subst (λ p. IsTrue (is_counted p)) e h)).0
-
-    by : (more < length (mark_of mark)) ⊎ (length (mark_of mark) ≤ more) → IsTrue (is_counted (parts.Mark mark more))
-    by (inl low) = and_from (nat_le 3 more) (nat_lt more (length (mark_of mark))) (le-leb 3 more (omega (arith, three, is))) (lt-ltb more (length (mark_of mark)) low)
-    by (inr long) = absurd (short long)

@@ -14,7 +14,7 @@ use Rattle.tc_stream.specs.Outcomes.{Outcome, document, refused, passed, Comes}
 use Rattle.tc_stream.specs.From.{FromFront, Standing, open_in, StillComes, ComesByItems}
 use Rattle.tc_stream.specs.declared.phases.Phase.TheVariants as phases
 use Rattle.tc_stream.proofs.MeasureLaws.{Ahead, ahead, element_there, tag_begins, good_texts_pass_nothing}
-use Rattle.tc_stream.proofs.CharacterLaws.{at_most_or_more}
+use Rattle.tc_stream.proofs.LengthLaws.{at_most_or_more}
 use Rattle.tc_stream.proofs.TagLaws.{open_end, empty_end, form_of, form_unique, whole_form_unique, whole_unique, no_form_at_end_tag, form_begins, end_tag_begins}
 use Rattle.tc_stream.proofs.LongLaws.{long_form, long_end_tag}
 use Rattle.tc_stream.proofs.ComingLaws.{comes_document, comes_refused, comes_passed}

@@ -1,12 +1,11 @@
 -- How a reader that has come to a place reads on: what is so of the characters so far is so of some more.
-use Rattle.std.proofs.Common.{◌≡◌, ◌≢◌, ℕ, ◌<◌, ◌≤◌, ◌+◌, Bool, true, false, not, ◌&&◌, ◌==◌, List, [], ◌∷◌, ◌++◌, refl, ap, ◌∙◌, sym, subst, length, arith, IsTrue, IsUtf8, Result, Ok, Err, IfErr, append_assoc, append-nil, length-append}
+use Rattle.std.proofs.Common.{◌≡◌, ◌≢◌, ℕ, ◌≤◌, ◌+◌, Bool, true, false, not, ◌&&◌, ◌==◌, List, [], ◌∷◌, ◌++◌, refl, ap, ◌∙◌, sym, subst, length, arith, IsTrue, Result, Ok, Err, IfErr, append_assoc, append-nil, length-append}
 use Rattle.std.specs.Prelude.{◌↔◌, encode_utf8}
 use Rattle.std.specs.List.{list_all}
 use Rattle.std.specs.Result.{IsErrAnd}
-use Rattle.std.proofs.lemmas.Bool.{true≢false, and_parts, eqb-true}
+use Rattle.std.proofs.lemmas.Bool.{and_parts, eqb-true}
 use Rattle.std.proofs.lemmas.List.Folds.{list_all-append}
-use Rattle.std.proofs.lemmas.Str.{IsCharBoundary-at_seam, cons_from_encodes}
-use Rattle.std.proofs.Math.Seq.{take-append_seam}
+use Rattle.std.proofs.lemmas.Str.{cons_from_encodes}
 use Rattle.tc_base.specs.Characters.{is_char, is_white}
 use Rattle.tc_base.specs.declared.Place.{Place}
 use Rattle.tc_base.specs.declared.reasons.Why.{Why}
@@ -15,7 +14,7 @@ use Rattle.tc_model.specs.Names.{IsChars}
 use Rattle.tc_model.specs.RawTrees.{Bound}
 use Rattle.tc_model.specs.Trees.{is_white_space_only}
 use Rattle.tc_model.specs.XmlTextRefusals.{unsupported}
-use Rattle.tc_model.proofs.XmlTextChars.{no_chars, join_chars, behind_chars, cut_chars}
+use Rattle.tc_model.proofs.XmlTextChars.{no_chars, join_chars, behind_chars}
 use Rattle.tc_stream.specs.Outcomes.{Outcome, refused, Comes}
 use Rattle.tc_stream.specs.Goes.{Level}
 use Rattle.tc_stream.specs.From.{Standing, open_in, StillComes}
@@ -23,7 +22,7 @@ use Rattle.tc_stream.specs.Faults.{IsFaultOf, IsFaultOfFront}
 use Rattle.tc_stream.specs.Keeps.{AreSteps, Keeps}
 use Rattle.tc_stream.specs.Parts.{Pends, MayPend}
 use Rattle.tc_stream.specs.Stands.{IsReading, ReadsTo, Tells, before, within, behind, known_text}
-use Rattle.tc_stream.specs.Reading.{ReadsOn, FaultsOn, ReadsChar, FaultsAtChar, TakesText}
+use Rattle.tc_stream.specs.Reading.{ReadsOn, FaultsOn, TakesText}
 use Rattle.tc_stream.specs.declared.elements.Elements.{Elements}
 use Rattle.tc_stream.specs.declared.faults.StreamFault.{StreamFault}
 use Rattle.tc_stream.specs.declared.faults.StreamFault.TheVariants as faults
@@ -48,11 +47,6 @@ pending_with c r h = join_chars r.pending c r.pending_chars h
 -- what follows characters in a text
 pub chars_left : {text used rest : List ℕ} → text ≡ used ++ rest → IsChars used → IsChars text → IsChars rest
 chars_left {text} {used} {rest} e h k = behind_chars used rest h (subst IsChars e k)
-
--- and what stands before a text
-pub chars_before : (used rest : List ℕ) → IsUtf8 rest → IsChars (used ++ rest) → IsChars used
-chars_before used rest u h =
-    subst IsChars (take-append_seam used rest) (cut_chars (used ++ rest) (length used) h (IsCharBoundary-at_seam (used ++ rest) used rest refl u)).0
 
 pub first_char : {text : List ℕ} (c : ℕ) (rest : List ℕ) → text ≡ encode_utf8 c ++ rest → IsChars text → IsTrue (is_char c)
 first_char c rest e (cs, is, h) =
@@ -234,30 +228,10 @@ front_faults {old} {text} {front} rest fault end last e u fit b = λ x chars h k
     joined : (a b c d : List ℕ) → (a ++ b) ++ (c ++ d) ≡ (a ++ (b ++ c)) ++ d
     joined a b c d = sym (append_assoc (a ++ b) c d) ∙ ap (λ w. w ++ d) (append_assoc a b c)
 
--- one character of it
-pub char_read : {old new : Reader} {text rest : List ℕ} (end c : ℕ) → text ≡ encode_utf8 c ++ rest → ReadsChar old new c → ReadsOn old new text rest end
-char_read {old} {new} {text} {rest} end c e a = record { used = encode_utf8 c; parts = e; ready = a.ready; reads = λ x chars h fit r. a.reads x chars (first_char c rest e h) r }
-
-pub char_faults : {old : Reader} {text : List ℕ} (rest : List ℕ) (fault : StreamFault) (end c : ℕ) → text ≡ encode_utf8 c ++ rest → FaultsAtChar old c fault → FaultsOn old text end fault
-char_faults {old} {text} rest fault end c e b = λ x chars h fit r f.
-    let there : IsFaultOf ((chars ++ encode_utf8 c) ++ (rest ++ f)) fault = b x chars (first_char c rest e h) r (rest ++ f) in
-    subst (λ w. IsFaultOf w fault) (joined chars (encode_utf8 c) rest f ∙ ap (λ w. (chars ++ w) ++ f) (sym e)) there
-  where
-    joined : (a b c d : List ℕ) → (a ++ b) ++ (c ++ d) ≡ (a ++ (b ++ c)) ++ d
-    joined a b c d = sym (append_assoc (a ++ b) c d) ∙ ap (λ w. w ++ d) (append_assoc a b c)
-
 -- the exit of a `?`
 pub failed : {T : Type 0} (r : Result T StreamFault) (x : StreamFault) (P : StreamFault → Type 0) → IsErrAnd r (λ e. e ≡ x) → P x → IfErr r P
 failed (Ok y) x P e h = tt
 failed (Err y) x P e h = subst P (sym e) h
-
--- whether something is left
-pub some_left : (bs : List ℕ) → false ≡ (length bs == 0) → bs ≢ []
-some_left bs e i = true≢false (sym (ap (λ w. length w == 0) i) ∙ sym e)
-
-pub some_length : (bs : List ℕ) → false ≡ (length bs == 0) → 0 < length bs
-some_length [] e = absurd (true≢false (sym e))
-some_length (b ∷ bs) e = omega arith
 
 pub none_left : (bs : List ℕ) → true ≡ (length bs == 0) → bs ≡ []
 none_left [] e = refl

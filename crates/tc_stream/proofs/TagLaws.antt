@@ -28,10 +28,6 @@ pub ends_at : {end after : List ℕ} → (end ≡ 0x3E ∷ after) ⊎ (end ≡ c
 ends_at (inl e) = open_end e
 ends_at (inr e) = empty_end e
 
-pub as_ends : {end after : List ℕ} → EndsAt end after → (end ≡ 0x3E ∷ after) ⊎ (end ≡ codes "/>" ++ after)
-as_ends (open_end e) = inl e
-as_ends (empty_end e) = inr e
-
 pub ends_one : {end after after' : List ℕ} → EndsAt end after → EndsAt end after' → after ≡ after'
 ends_one (open_end e) (open_end f) = same_others (sym e ∙ f)
 ends_one (open_end e) (empty_end f) = absurd (omega (arith, same_first (sym e ∙ f)))
@@ -108,7 +104,7 @@ value_loosened (r.reference a v) = r.reference (reference_loosened a) (value_loo
 pub quoted_loosened : {o : Bool} {bs value after : List ℕ} → QuotedAt false bs value after → QuotedAt o bs value after
 quoted_loosened a = record { quote = a.quote; rest = a.rest; is_quote = a.is_quote; opens = a.opens; closes = value_loosened a.closes }
 
-attributes_loosened : {o : Bool} {total : ℕ} {bs after : List ℕ} {attributes : List WrittenAttribute} → AttributesAt false total bs attributes after → AttributesAt o total bs attributes after
+pub attributes_loosened : {o : Bool} {total : ℕ} {bs after : List ℕ} {attributes : List WrittenAttribute} → AttributesAt false total bs attributes after → AttributesAt o total bs attributes after
 attributes_loosened (no_more e) = no_more e
 attributes_loosened (attribute w a e v l) = attribute w a e (quoted_loosened v) (attributes_loosened l)
 

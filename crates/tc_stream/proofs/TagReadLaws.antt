@@ -26,7 +26,8 @@ use Rattle.tc_stream.specs.declared.names.WrittenName.{WrittenName}
 use Rattle.tc_stream.specs.declared.tags.Form.{Form}
 use Rattle.tc_stream.specs.declared.tags.NoForm.{NoForm}
 use Rattle.tc_stream.specs.declared.tags.NoForm.TheVariants.{Malformed, Unsupported}
-use Rattle.tc_stream.proofs.FormLaws.{Attributes, attributes_begin, attributes_more, all_attributes, attributes_loosened, space_stands, value_within}
+use Rattle.tc_stream.proofs.FormLaws.{Attributes, attributes_begin, attributes_more, all_attributes, space_stands, value_within}
+use Rattle.tc_stream.proofs.TagLaws.{attributes_loosened}
 use Rattle.tc_stream.proofs.ValueLaws.{reference_before}
 
 -- where nothing is said of a construct that isn't read
@@ -49,13 +50,6 @@ name_some bs [] after a = let (c, cs, e, s, o) = a.lawful in absurd (none c cs e
     none : (c : ℕ) (cs : List ℕ) → encode_utf8_all (c ∷ cs) ≡ [] → ⊥
     none c cs e = omega (arith, ap length e, length-le-encodes (c ∷ cs))
 name_some bs (b ∷ n) after a = refl
-
-pub name_parts_within : {bs after : List ℕ} {n : QualifiedName} → QNameAt bs n after → length n.prefix + cond (is_empty n.prefix) 0 1 + length n.local ≤ length bs
-name_parts_within (unprefixed {bs = bs} {local = l} {after = after} a e) = omega (arith, ap length a.parts, length-append l after)
-name_parts_within (prefixed {bs = bs} {prefix = p} {rest = rest} {local = l} {after = after} a b) =
-    let some = name_some bs p (0x3A ∷ rest) a in
-    let one : ◌≡◌ {A = ℕ} (cond (is_empty p) 0 1) 1 = ap (λ x. cond x 0 1) some in
-    omega (arith, one, ap length a.parts, length-append p (0x3A ∷ rest), ap length b.parts, length-append l after)
 
 pub name_stands : (front text after : List ℕ) (n : QualifiedName) (s : WrittenName) → QNameAt text n after
     → s.prefix.start ≡ length front → s.prefix.length ≡ length n.prefix → s.local.start ≡ length front + length n.prefix + cond (is_empty n.prefix) 0 1 → s.local.length ≡ length n.local
@@ -150,9 +144,6 @@ an_attribute text start behind equals rest total n value at quote w e q f v s = 
   stands = refl;
   no_space = s;
 }
-
-pub quoted_of : (total : ℕ) (text rest value : List ℕ) (at quote : ℕ) → ValueRead total text at quote value rest → QuotedAt false text value rest
-quoted_of total text rest value at quote v = record { quote = quote; rest = v.inside; is_quote = v.is_quote; opens = v.opens; closes = v.closes }
 
 pub space_here : (total : ℕ) (text start behind : List ℕ) (name : QualifiedName) → length start ≤ total → BeginsWithWhite text → start ≡ after_white text → QNameAt start name behind → true ≡ same_written name xml_space
     → (left : List ℕ) × (total - length start + length left ≡ total) × AttributesRefuse text XmlSpace left

@@ -12,7 +12,8 @@ pub enum StreamFault {
     Unsupported(Place, Why),
     /// An element stands within 2,000 others; its start tag begins at the place.
     TooDeep(Place),
-    /// A tag (XML 1.0, 3.1) has more than 65,536 bytes from its `<` through its `>`.
+    /// A tag (XML 1.0, 3.1) has more than 65,536 bytes from its `<` through its `>`: it has no end among the first ones,
+    /// whatever else is wrong in them.
     TagTooLong,
     /// The names of the elements that are open, with the prefixes and namespace names that their tags declare
     /// (Namespaces in XML 1.0, 3), have more than 65,536 bytes.
