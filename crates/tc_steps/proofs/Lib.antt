@@ -5,3 +5,6 @@ pub mod ClassLaws
 pub mod OpenLaws
 pub mod ValidLaws
 pub mod FailedLaws
+pub mod MovingLaws
+pub mod JudgedLaws
+pub mod TreeLaws

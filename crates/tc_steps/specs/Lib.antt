@@ -1,3 +1,6 @@
 pub mod Led
 pub mod Classes
 pub mod Open
+pub mod Numbered
+pub mod Moving
+pub mod Judged

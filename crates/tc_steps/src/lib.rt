@@ -4,11 +4,19 @@
 
 mod arrows;
 mod classes;
+mod judge;
+mod known_names;
+mod known_sets;
+mod known_steps;
 mod levels;
+mod moves;
 mod patterns;
 mod steps;
 mod table;
+mod trees;
 mod validity;
 
+pub use judge::Judge;
 pub use table::Steps;
+pub use trees::take_tree;
 pub use validity::Validity;

@@ -100,6 +100,20 @@ impl<'h> Steps<'h> {
         symbol
     }
 
+    /// The number below which states are.
+    pub(crate) fn size(&self) -> u32
+        ensures { result ≡ a.states self.now.auto.now }
+    {
+        self.auto.states()
+    }
+
+    /// Whether a symbol is one of the alphabet.
+    pub(crate) fn has(&self, symbol: Sym) -> bool
+        ensures { IsTrue result → symbol.0 < symbol_count self.now.alphabet.now }
+    {
+        symbol.0 < self.alphabet.count()
+    }
+
     /// Leaves the first states of the contents that the names of a symbol allow.
     pub fn enter(&self, symbol: Sym, states: &mut Set)
         requires symbol { symbol.0 < symbol_count self.now.alphabet.now }
