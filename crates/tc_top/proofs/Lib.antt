@@ -24,5 +24,6 @@ pub mod OneCertifying
 pub mod CertifiedTexts
 pub mod Undecided
 pub mod Unaccepted
+pub mod TextsDecided
 pub mod CertifiedExact
 pub mod CertifyingCalls

@@ -14,6 +14,7 @@ pub mod Causes
 pub mod Headline
 pub mod Answers
 pub mod AnswersSeen
+pub mod TextsSeen
 pub mod OneAnswer
 pub mod Program
 pub mod Certifying

@@ -39,9 +39,9 @@ use tc_stream::{Stream, StreamFault};
 
 /// The automaton of a schema's contents, and the schema's symbols.
 #[derive(Drop)]
-struct SchemaParts<'b> {
-    automaton: Auto<'b>,
-    alphabet: Alphabet,
+pub(crate) struct SchemaParts<'b> {
+    pub(crate) automaton: Auto<'b>,
+    pub(crate) alphabet: Alphabet,
 }
 
 /// Reads the operands, and tells whether the document, which comes in pieces of so many bytes, is valid.
@@ -114,7 +114,10 @@ fn schema_in_pieces(
 /// # Errors
 ///
 /// The first limit that the schema passes.
-fn schema_parts<'b>(alloc: Global, schema: &Schema<'b>) -> Result<SchemaParts<'b>, LimitFault>
+pub(crate) fn schema_parts<'b>(
+    alloc: Global,
+    schema: &Schema<'b>,
+) -> Result<SchemaParts<'b>, LimitFault>
     requires schema { IsSpelled schema.now }
     ensures ok { IfOk result (λ parts. (x : g.Grammar) → IsReadOf x schema.now → IsSchemaParts x parts) }
     ensures err { IfErr result (λ e. (x : g.Grammar) → IsReadOf x schema.now → IsCauseBy (PassesValidity x) e) }
