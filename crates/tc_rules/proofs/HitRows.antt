@@ -60,11 +60,11 @@ hits_told : (x fit : State) → some_ends x fit ≡ list_any (ends_at x fit) (en
 hits_told x fit = ends_told (ends_at x fit) 0 x fit (λ j. let same : 0 + j ≡ j = omega arith in ap (ends_at x fit) same)
 
 -- so of a graph's state the alternatives tell it that are kept for it
-pub hits_kept : (g : Graph) (i : ℕ) (x fit : State) → KeepsEndings g → slice_get (states g.states.keys) i ≡ Some x → list_any (ends_at x fit) (get_or (ending g) i []) ≡ some_ends x fit
+pub hits_kept : (g : Graph) (i : ℕ) (x fit : State) → KeepsEndings g → slice_get (states g.letters.ends.items g.states.keys) i ≡ Some x → list_any (ends_at x fit) (get_or (ending g) i []) ≡ some_ends x fit
 hits_kept g i x fit known here =
     let same : ending g ≡ ending_by_states g = known in
     let asked : get_or (ending g) i [] ≡ ending_alternatives 0 x =
-    ap (λ (w : List (List ℕ)). get_or w i []) same ∙ get_or_from_slice_get (ending_by_states g) i (ending_alternatives 0 x) [] (mapped_at (ending_alternatives 0) (states g.states.keys) i x here) in
+    ap (λ (w : List (List ℕ)). get_or w i []) same ∙ get_or_from_slice_get (ending_by_states g) i (ending_alternatives 0 x) [] (mapped_at (ending_alternatives 0) (states g.letters.ends.items g.states.keys) i x here) in
     ap (list_any (ends_at x fit)) asked ∙ sym (hits_told x fit)
 
 module _ (P : ℕ → Bool) (xs : List ℕ) (i d : ℕ) (r all : Bool) (l : i < length xs) (h : r ≡ P (get_or xs i d)) (k : all ≡ list_any P (drop i xs)) where
@@ -81,11 +81,11 @@ pub any_none : (P : ℕ → Bool) (xs : List ℕ) (i : ℕ) (all : Bool) → len
 any_none P xs i all l k = sym (k ∙ ap (list_any P) (drop_all i xs l))
 
 -- one state more
-pub one_state_ending : (all : List (List ℕ)) (old : List (Vec ℕ)) (w : Vec ℕ) (xs : List Row) (i : ℕ) (x : Row) → i < length xs → x ≡ get_or xs i x → w.items ≡ ending_alternatives 0 (state x)
-    → all ≡ lists old ++ endings_of (states (drop i xs)) → all ≡ lists (old ++ w ∷ []) ++ endings_of (states (drop (i + 1) xs))
-one_state_ending all old w xs i x h e is k =
+pub one_state_ending : (ends : List ℕ) (all : List (List ℕ)) (old : List (Vec ℕ)) (w : Vec ℕ) (xs : List Row) (i : ℕ) (x : Row) → i < length xs → x ≡ get_or xs i x → w.items ≡ ending_alternatives 0 (state ends x)
+    → all ≡ lists old ++ endings_of (states ends (drop i xs)) → all ≡ lists (old ++ w ∷ []) ++ endings_of (states ends (drop (i + 1) xs))
+one_state_ending ends all old w xs i x h e is k =
     one_more all (lists old) _ _ _ w.items (map_push (λ (v : Vec ℕ). v.items) old w)
-    (ap (λ v. endings_of (states v)) (left_one xs i x h e) ∙ ap (λ v. v ∷ endings_of (states (drop (i + 1) xs))) (sym is)) k
+    (ap (λ v. endings_of (states ends v)) (left_one xs i x h e) ∙ ap (λ v. v ∷ endings_of (states ends (drop (i + 1) xs))) (sym is)) k
 
 pub none_ends : (P : ℕ → Bool) (xs : List ℕ) → length xs ≤ 0 → false ≡ list_any P xs
 none_ends P [] h = refl

@@ -24,46 +24,23 @@ use Rattle.tc_rules.specs.Classes.{fits_of, AreClasses, IsSourceOf}
 use Rattle.tc_rules.specs.Graphs as g
 use Rattle.tc_rules.specs.Graphs.{class_of, fits_at, next_at, LeadsTo, path_fits, IsGraphOf}
 use Rattle.tc_rules.specs.Once.{put_all}
-use Rattle.tc_rules.specs.Reached.{leads_by, rounds, number_in, numbers_by, all_numbers_by, AreReached}
+use Rattle.tc_rules.specs.Reached.{leads_by, rounds, AreReached}
+use Rattle.tc_rules.specs.Rows.{fits_by}
+use Rattle.tc_rules.specs.Steps.{both_states}
+use Rattle.tc_rules.proofs.RowPairs.{fit_parts}
 use Rattle.tc_rules.specs.Views.{predicates}
 use Rattle.tc_rules.specs.Steps as v
 use Rattle.tc_rules.specs.declared.graph.Source.{Source}
 use Rattle.tc_rules.proofs.Fits.{path_fits_is, next_is}
 use Rattle.tc_rules.proofs.Numbering.{AreThere}
 use Rattle.tc_rules.proofs.Pieces.{pieces_once, pieces_of, filter_pieces, pieces_alike, length_below, mapped_at, unmapped_at, get_or_mapped, value_at, there_piece, there_one}
-use Rattle.tc_rules.proofs.Rounds.{reached_counts, reached_there, reached_alike, many_alike}
+use Rattle.tc_rules.proofs.Rounds.{reached_alike, many_alike}
 use Rattle.tc_rules.proofs.SameRows.{state_same, state_self}
 
--- the number of a state
-first_place : (test : State → Bool) (xs : List State) → list_any test xs ≡ true → position_or_len test xs < length xs
-first_place test [] e = absurd (cc)
-first_place test (x ∷ xs) e = by (test x) (first_place test xs) e
-  where
-    by : (b : Bool) → (list_any test xs ≡ true → position_or_len test xs < length xs) → (b || list_any test xs) ≡ true → cond (not b) (1 + position_or_len test xs) 0 < suc (length xs)
-    by true k h = omega arith
-    by false k h = let l = k h in omega (arith, l)
+module _ (symbols : List Mention) (s : Source) (h : IsSourceOf symbols s) (q : Path) (classes : List ℕ) (kinds marked : List State) (k : AreClasses s.predicates.items q s.sets s.names.items classes (fits_by kinds marked)) where
+  abbrev fits : List (List State)
+  fits = fits_by kinds marked
 
-no_number : (test : State → Bool) (xs : List State) → position test xs ≡ None → list_any test xs ≡ false
-no_number test xs e = by (list_any test xs) refl
-  where
-    some : (k m : ℕ) → k < m → cond (nat_lt k m) (Some k) None ≡ Some k
-    some k m h = ap (λ (b : Bool). cond b (Some k) None) (lt-ltb k m h)
-
-    by : (b : Bool) → list_any test xs ≡ b → list_any test xs ≡ false
-    by true f = absurd (let k = sym e ∙ some (position_or_len test xs) (length xs) (first_place test xs f) in cc)
-    by false f = f
-
-got_number : (test : State → Bool) (xs : List State) (j : ℕ) → position test xs ≡ Some j → (x : State) × (slice_get xs j ≡ Some x) × (test x ≡ true)
-got_number test xs j e =
-    let h = position-Some test xs j [] e in
-    (get_or xs j [], slice_get-get_or xs j [] h.0, h.1)
-
-get_some : {X : Type 0} (xs : List (List X)) (c m : ℕ) (y : X) → slice_get (get_or xs c []) m ≡ Some y → slice_get xs c ≡ Some (get_or xs c [])
-get_some [] c m y e = absurd (cc)
-get_some (x ∷ xs) zero m y e = refl
-get_some (x ∷ xs) (suc c) m y e = get_some xs c m y e
-
-module _ (symbols : List Mention) (s : Source) (h : IsSourceOf symbols s) (q : Path) (classes : List ℕ) (fits : List (List State)) (k : AreClasses s.predicates.items q s.sets s.names.items classes fits) where
   sets_are : s.sets ≡ 2 ^ length (predicates s.predicates.items)
   sets_are = h.sets ∙ ap (λ n. 2 ^ n) (sym (length-map s.predicates.items (λ (t : Bor Test). see.test t.now)))
 
@@ -144,8 +121,8 @@ module _ (symbols : List Mention) (s : Source) (h : IsSourceOf symbols s) (q : P
       ∙ (sym (length-map s.names.items see.name)
       ∙ (ap length h.names ∙ (length-map (numbers_below (symbol_count symbols)) (fresh_name symbols) ∙ length_below (symbol_count symbols))))))
 
-  module _ (counts : State → Bool) (known : List State) (texts : List State) (numbers : List (List (List (Option ℕ)))) (reached : AreReached counts (leads_by q fits) (first_state q) known)
-      (of_texts : texts ≡ fits_of s.predicates.items q s.sets None) (of_numbers : numbers ≡ all_numbers_by q fits known) where
+  module _ (counts : State → Bool) (known : List State) (texts : List State) (numbers : List (List (List (Option ℕ)))) (reached : AreReached same_state counts (leads_by q fits) (first_state q) known)
+      (of_texts : texts ≡ fits_of s.predicates.items q s.sets None) where
     abbrev tables : g.Graph
     tables = record { states = known; classes = classes; fits = fits; texts = texts; next = numbers }
 
@@ -155,56 +132,32 @@ module _ (symbols : List Mention) (s : Source) (h : IsSourceOf symbols s) (q : P
     fits_told of_text m i =
         ap (λ w. slice_get w m) of_texts ∙ (value_at (λ m. v.path_fits s.predicates.items q (record { name = None; marks = m })) s.sets m (within m i.marks) ∙ ap Some (fit_text m))
 
-    next_is_told : (i : ℕ) (x : State) (c m : ℕ) → slice_get known i ≡ Some x → c < symbol_count symbols → m < 2 ^ length (predicates s.predicates.items)
-        → next_at tables i c m ≡ Some (number_in known (p.next_state symbols (predicates s.predicates.items) q x (record { kind = of_symbol c; marks = m })))
-    next_is_told i x c m e l b =
-        let fit = path_fits symbols (predicates s.predicates.items) q (record { kind = of_symbol c; marks = m }) in
-        let of_state : get_or numbers i [] ≡ numbers_by q fits known x =
-        ap (λ w. get_or w i []) of_numbers ∙ get_or_from_slice_get (map (numbers_by q fits known) known) i (numbers_by q fits known x) [] (mapped_at (numbers_by q fits known) known i x e) in
-        ap (λ w. slice_get (get_or w (get_or classes c 0) []) m) of_state
-        ∙ (ap (λ w. slice_get w m) (get_or_mapped (λ class. map (λ f. number_in known (v.next_state q f x)) class) fits (get_or classes c 0) [])
-        ∙ (mapped_at (λ f. number_in known (v.next_state q f x)) (get_or fits (get_or classes c 0) []) m fit (class_fit c m l b)
-        ∙ ap (λ y. Some (number_in known y)) (next_is symbols (predicates s.predicates.items) (record { kind = of_symbol c; marks = m }) q x)))
-
     -- where a state leads is there, if it counts
-    lead_there : (i : ℕ) (x : State) (c m : ℕ) → slice_get known i ≡ Some x → c < symbol_count symbols → m < 2 ^ length (predicates s.predicates.items)
-        → counts (p.next_state symbols (predicates s.predicates.items) q x (record { kind = of_symbol c; marks = m })) ≡ true
-        → list_any (same_state (p.next_state symbols (predicates s.predicates.items) q x (record { kind = of_symbol c; marks = m }))) known ≡ true
-    lead_there i x c m e l b t =
-        let fit = path_fits symbols (predicates s.predicates.items) q (record { kind = of_symbol c; marks = m }) in
-        let next = p.next_state symbols (predicates s.predicates.items) q x (record { kind = of_symbol c; marks = m }) in
-        let got : slice_get (get_or fits (get_or classes c 0) []) m ≡ Some fit = class_fit c m l b in
-        let of_x : AreThere same_state known (filter counts (leads_by q fits x)) = there_piece same_state counts (leads_by q fits) known known i x (reached_there counts (leads_by q fits) (first_state q) known reached) e in
-        let of_class : AreThere same_state known (filter counts (map (λ f. v.next_state q f x) (get_or fits (get_or classes c 0) []))) =
-        there_piece same_state counts (λ class. map (λ f. v.next_state q f x) class) known fits (get_or classes c 0) (get_or fits (get_or classes c 0) []) of_x (get_some fits (get_or classes c 0) m fit got) in
-        there_one same_state counts known (map (λ f. v.next_state q f x) (get_or fits (get_or classes c 0) [])) m next of_class
-        (mapped_at (λ f. v.next_state q f x) (get_or fits (get_or classes c 0) []) m fit got ∙ ap Some (next_is symbols (predicates s.predicates.items) (record { kind = of_symbol c; marks = m }) q x)) t
+    abbrev pub LeadRight : Type 0
+    LeadRight = (i c m : ℕ) (x k s : State) → slice_get known i ≡ Some x → slice_get kinds c ≡ Some k → slice_get marked m ≡ Some s
+        → (j : Option ℕ) × (slice_get (get_or (get_or numbers i []) c []) m ≡ Some j) × LeadsTo counts tables j (v.next_state q (both_states k s) x)
 
-    leads_to : (y : State) (o : Option ℕ) → number_in known y ≡ o → (counts y ≡ true → list_any (same_state y) known ≡ true) → LeadsTo counts tables o y
-    leads_to y None e there = by (counts y) refl
-      where
-        by : (b : Bool) → counts y ≡ b → counts y ≡ false
-        by true f = absurd (let a = sym (there f) ∙ no_number (same_state y) known e in cc)
-        by false f = f
-    leads_to y (Some j) e there =
-        let t = got_number (same_state y) known j e in
-        let same : y ≡ t.0 = state_same y t.0 t.2 in
-        let here : slice_get known j ≡ Some y = t.1 ∙ ap Some (sym same) in
-        (reached_counts counts (leads_by q fits) (first_state q) known j y reached here, here)
+    next_told : LeadRight → (i : ℕ) (x : State) (c m : ℕ) → slice_get known i ≡ Some x → c < symbol_count symbols → m < 2 ^ length (predicates s.predicates.items)
+        → (j : Option ℕ) × (next_at tables i c m ≡ Some j) × LeadsTo counts tables j (p.next_state symbols (predicates s.predicates.items) q x (record { kind = of_symbol c; marks = m }))
+    next_told right i x c m e l b =
+        let fit = path_fits symbols (predicates s.predicates.items) q (record { kind = of_symbol c; marks = m }) in
+        let parts = fit_parts kinds marked (get_or classes c 0) m fit (class_fit c m l b) in
+        let led = right i (get_or classes c 0) m x parts.0 parts.1 e parts.2 parts.3 in
+        let same : v.next_state q (both_states parts.0 parts.1) x ≡ p.next_state symbols (predicates s.predicates.items) q x (record { kind = of_symbol c; marks = m }) =
+        ap (λ f. v.next_state q f x) parts.4 ∙ next_is symbols (predicates s.predicates.items) (record { kind = of_symbol c; marks = m }) q x in
+        (led.0, led.1, subst (LeadsTo counts tables led.0) same led.2)
 
     -- the graph
-    pub is_graph : IsGraphOf symbols (predicates s.predicates.items) counts q tables
-    is_graph = record {
+    pub is_graph : LeadRight → IsGraphOf symbols (predicates s.predicates.items) counts q tables
+    is_graph right = record {
       states = reached_alike counts (leads_by q fits) (p.next_state symbols (predicates s.predicates.items) q) (letters_of_elements symbols (predicates s.predicates.items)) (alike counts) (first_state q) known reached;
       classes = count_is;
       fits = λ l i. fits_told l.kind l.marks i;
-      next = λ i x c m e l b.
-          let y = p.next_state symbols (predicates s.predicates.items) q x (record { kind = of_symbol c; marks = m }) in
-          (number_in known y, next_is_told i x c m e l b, leads_to y (number_in known y) refl (lead_there i x c m e l b));
+      next = λ i x c m e l b. next_told right i x c m e l b;
     }
 
   -- too many states are too many by letters
-  pub are_many : (counts : State → Bool) (most m : ℕ) → most < length (rounds counts (leads_by q fits) m (filter counts (first_state q ∷ [])))
+  pub are_many : (counts : State → Bool) (most m : ℕ) → most < length (rounds same_state counts (leads_by q fits) m (filter counts (first_state q ∷ [])))
       → most < length (n.rounds counts (p.next_state symbols (predicates s.predicates.items) q) (letters_of_elements symbols (predicates s.predicates.items)) m (filter counts (first_state q ∷ [])))
   are_many counts most m =
       many_alike counts (leads_by q fits) (p.next_state symbols (predicates s.predicates.items) q) (letters_of_elements symbols (predicates s.predicates.items)) (alike counts) (first_state q) most m

@@ -98,6 +98,12 @@ module _ {X : Type 0} where
   get_before (z ∷ xs) x y zero e = e
   get_before (z ∷ xs) x y (suc i) e = get_before xs x y i e
 
+module _ {X : Type 0} where
+  pub get_front : (xs ys : List X) (i : ℕ) (x : X) → slice_get xs i ≡ Some x → slice_get (xs ++ ys) i ≡ Some x
+  get_front [] ys i x e = absurd (cc)
+  get_front (y ∷ xs) ys zero x e = e
+  get_front (y ∷ xs) ys (suc i) x e = get_front xs ys i x e
+
 pub length_below : (n : ℕ) → length (numbers_below n) ≡ n
 length_below zero = refl
 length_below (suc n) = length_push (numbers_below n) n ∙ (ap (λ k. k + 1) (length_below n) ∙ omega arith)

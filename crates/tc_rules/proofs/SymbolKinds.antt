@@ -18,6 +18,7 @@ use Rattle.tc_rules.specs.Views.{predicates}
 use Rattle.tc_rules.specs.Steps.{passes_name, steps_fit, path_fits, steps_having, path_having, both_items, both_states}
 use Rattle.tc_rules.specs.declared.rows.Sought.TheVariants.{Passes, Marked}
 use Rattle.tc_rules.proofs.Numbering.{put_joined}
+use Rattle.tc_rules.proofs.Pieces.{get_front}
 use Rattle.tc_rules.proofs.RowSteps.{map_push}
 
 -- a step fits where its node test and its predicate do
@@ -76,12 +77,6 @@ any_above : (c n : ℕ) → n ≤ c → list_any (nat_eq c) (numbers_below n) �
 any_above c zero h = refl
 any_above c (suc n) h =
     any_push c n (numbers_below n) ∙ (ap (λ b. b || nat_eq c n) (any_above c n (omega arith)) ∙ differs c n (omega arith))
-
-module _ {X : Type 0} where
-  pub get_front : (xs ys : List X) (i : ℕ) (x : X) → slice_get xs i ≡ Some x → slice_get (xs ++ ys) i ≡ Some x
-  get_front [] ys i x e = absurd (cc)
-  get_front (y ∷ xs) ys zero x e = e
-  get_front (y ∷ xs) ys (suc i) x e = get_front xs ys i x e
 
 at_front : (kinds more : List State) (cs : List ℕ) (xs : List State) → AreAt kinds cs xs → AreAt (kinds ++ more) cs xs
 at_front kinds more [] [] h = tt
@@ -168,17 +163,6 @@ module _ (numbered : List (Bor Test)) (p : Path) where
       subst (AreKinds numbered p (names ++ n ∷ []) more) (sym pushed)
       (one_kind names kinds more classes n place (list_any (same_state (kind_of n)) kinds) refl
       (put ∙ ap (put_once same_state kinds) is) (got ∙ ap Some is) (λ e. last (ap (λ (x : State). list_any (same_state x) kinds) is ∙ e)) h)
-
-  -- one symbol more, as the code goes
-  pub kind_goes : (xs ys : List Name) (same : ys ≡ xs) (i : ℕ) (d : Name) (kinds more : List State) (classes now : List ℕ) → i < length ys
-      → ((names : List Name) → AreKinds numbered p names kinds classes → AreKinds numbered p (names ++ get_or ys i d ∷ []) more now)
-      → AreKinds numbered p (take i xs) kinds classes → AreKinds numbered p (take (i + 1) xs) more now
-  kind_goes xs ys same i d kinds more classes now l put h =
-      let n = get_or ys i d in
-      let inside : i < length xs = subst (λ (w : List Name). i < length w) same l in
-      let at : n ≡ get_or xs i n = get_or_default ys i d n l ∙ ap (λ (w : List Name). get_or w i n) same in
-      let names : take (i + 1) xs ≡ take i xs ++ n ∷ [] = take_more xs i n inside ∙ ap (λ w. take i xs ++ w ∷ []) (sym at) in
-      subst (λ w. AreKinds numbered p w more now) (sym names) (put (take i xs) h)
 
 pub no_kinds : (numbered : List (Bor Test)) (p : Path) → AreKinds numbered p [] [] []
 no_kinds numbered p = record { at = tt; order = refl }

@@ -3,7 +3,7 @@ pub mod States
 pub mod Views
 pub mod RulesView
 pub mod Once
-pub mod Cuts
+pub mod Words
 pub mod Mixed
 pub mod MoveTables
 pub mod Graphs

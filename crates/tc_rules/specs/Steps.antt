@@ -6,7 +6,6 @@ use Rattle.tc_model.specs.Chains.{an_element, a_text, Tree}
 use Rattle.tc_model.specs.Sheets as s
 use Rattle.tc_model.specs.Sheets.{NodeTest, Steps, no_step, step, Path, no_alternative, alternative}
 use Rattle.tc_model.specs.Paths.{passes}
-use Rattle.tc_model.specs.SameTests.{same_truth}
 use Rattle.tc_model.specs.Views as see
 use Rattle.tc_model.specs.Letters.{is_marked}
 use Rattle.tc_model.specs.PathStates.{Items, State, first_items, no_items}
@@ -14,7 +13,7 @@ use Rattle.tc_model.specs.declared.tree.Name.{Name}
 use Rattle.tc_model.specs.declared.sheet.Test.{Test}
 use Rattle.tc_rules.specs.Views.{predicates}
 use Rattle.tc_rules.specs.declared.rows.Sought.{Sought}
-use Rattle.tc_rules.specs.declared.rows.Sought.TheVariants.{Passes, Marked}
+use Rattle.tc_rules.specs.declared.rows.Sought.TheVariants.{Passes, Marked, Deep, Inner}
 
 -- an element of this name, or a text
 abbrev pub tree_named : Option Name → Tree
@@ -29,6 +28,10 @@ pub record NamedLetter : Type 0 where
   pub name : Option Name
   pub marks : ℕ
 
+abbrev pub has_step : Steps → Bool
+has_step no_step = false
+has_step (step deep test when ss) = true
+
 module _ (numbered : List (Bor Test)) where
   abbrev pub steps_fit : Steps → NamedLetter → Items
   steps_fit no_step l = []
@@ -38,14 +41,16 @@ module _ (numbered : List (Bor Test)) where
   path_fits no_alternative l = []
   path_fits (alternative ss p) l = steps_fit ss l ∷ path_fits p l
 
-  -- what is asked of a step
-  abbrev pub step_has : NodeTest → s.Test → Sought → Bool
-  step_has test when (Passes name) = passes_name test name
-  step_has test when (Marked marks) = is_marked [] (predicates numbered) when marks
+  -- what is asked of a step, after which one comes or not
+  abbrev pub step_has : Bool → Bool → NodeTest → s.Test → Sought → Bool
+  step_has deep goes_on test when (Passes name) = passes_name test name
+  step_has deep goes_on test when (Marked marks) = is_marked [] (predicates numbered) when marks
+  step_has deep goes_on test when Deep = deep
+  step_has deep goes_on test when Inner = goes_on
 
   abbrev pub steps_having : Steps → Sought → Items
   steps_having no_step x = []
-  steps_having (step deep test when ss) x = step_has test when x ∷ steps_having ss x
+  steps_having (step deep test when ss) x = step_has deep (has_step ss) test when x ∷ steps_having ss x
 
   abbrev pub path_having : Path → Sought → State
   path_having no_alternative x = []
@@ -78,50 +83,6 @@ abbrev pub next_state : Path → State → State → State
 next_state no_alternative fits row = []
 next_state (alternative ss p) fits [] = []
 next_state (alternative ss p) fits (items ∷ row) = further ss (first_or_none fits) false items ∷ next_state p (after_alternative fits) row
-
-abbrev pub has_step : Steps → Bool
-has_step no_step = false
-has_step (step deep test when ss) = true
-
--- an item moves on from a step to the next
-abbrev pub item_moves : Steps → Items → Items → Bool
-item_moves no_step fits items = false
-item_moves (step deep test when ss) fits items = (has_step ss && (first_or_false items && first_or_false fits)) || item_moves ss (after_first fits) (after_first items)
-
-abbrev pub some_item_moves : Path → State → State → Bool
-some_item_moves no_alternative fits row = false
-some_item_moves (alternative ss p) fits row = item_moves ss (first_or_none fits) (first_or_none row) || some_item_moves p (after_alternative fits) (after_alternative row)
-
--- an item is there that may move on
-abbrev pub item_waits : Steps → Items → Bool
-item_waits no_step items = false
-item_waits (step deep test when ss) items = (has_step ss && first_or_false items) || item_waits ss (after_first items)
-
-abbrev pub some_item_waits : Path → State → Bool
-some_item_waits no_alternative row = false
-some_item_waits (alternative ss p) row = item_waits ss (first_or_none row) || some_item_waits p (after_alternative row)
-
--- the places, by alternative and by step, from which items move on where these steps fit, counted on from an alternative and a step: `fits` may be
--- by node tests alone, whatever predicates hold
-abbrev pub moving_items : ℕ → ℕ → Steps → Items → Items → List (ℕ × ℕ)
-moving_items a k no_step fits items = []
-moving_items a k (step deep test when ss) fits items =
-    (if has_step ss && (first_or_false items && first_or_false fits) then (a, k) ∷ [] else []) ++ moving_items a (suc k) ss (after_first fits) (after_first items)
-
-abbrev pub moving_from : ℕ → Path → State → State → List (ℕ × ℕ)
-moving_from a no_alternative fits row = []
-moving_from a (alternative ss p) fits row = moving_items a 0 ss (first_or_none fits) (first_or_none row) ++ moving_from (suc a) p (after_alternative fits) (after_alternative row)
-
--- what stands at a place, and whether the same stands at all of some places
-abbrev pub value_at : State → ℕ × ℕ → Bool
-value_at x at = get_or (get_or x at.0 []) at.1 false
-
-abbrev pub all_same : (ℕ × ℕ → Bool) → (ℕ × ℕ → Bool) → List (ℕ × ℕ) → Bool
-all_same f g [] = true
-all_same f g (at ∷ places) = same_truth (f at) (g at) && all_same f g places
-
-abbrev pub are_alike : List (ℕ × ℕ) → State → State → Bool
-are_alike places x y = all_same (value_at x) (value_at y) places
 
 -- what both have
 abbrev pub both_items : Items → Items → Items

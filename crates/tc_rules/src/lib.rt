@@ -15,6 +15,7 @@ mod once;
 mod rows;
 mod rules;
 mod same;
+mod search;
 mod walk;
 
 pub use known_rules::KnownRules;

@@ -1,14 +1,13 @@
-// Rows of truth values: path states, and which steps fit a letter.
-ghost use Rattle.std.specs.Prelude.{◌≡◌, ◌+◌, ◌<◌, ◌≤◌, ◌&&◌, ◌||◌, ◌++◌, ◌∷◌, [], true, false, None, Some, drop, length, slice_get, get_or, if◌then◌else◌, IfOk, OnOk, MatchOption};
+// Rows of bits: path states, and which steps fit a letter.
+ghost use Rattle.std.specs.Prelude.{◌≡◌, ◌+◌, ◌*◌, ◌/◌, ◌%◌, ◌^◌, ◌<◌, ◌≤◌, ◌++◌, ◌∷◌, ◌&&◌, [], true, false, None, Some, bit_and, bit_or, get_or, length, slice_get, if◌then◌else◌, IfOk, OnOk, ℕ};
 ghost use Rattle.std.specs.List.{list_any};
 ghost use Rattle.tc_model.specs.Letters as l;
 ghost use Rattle.tc_model.specs.PathStates as p;
-ghost use Rattle.tc_model.specs.SameTests.{same_truth};
 ghost use Rattle.tc_model.specs.Views as see;
-ghost use Rattle.tc_rules.specs.Cuts.{between};
-ghost use Rattle.tc_rules.specs.Rows.{state, states, IsMade};
+ghost use Rattle.tc_rules.specs.Rows.{state, words, all_words};
 ghost use Rattle.tc_rules.specs.Steps as v;
 ghost use Rattle.tc_rules.specs.Views.{predicates};
+ghost use Rattle.tc_rules.specs.Words as w;
 
 use crate::once::number_of_test;
 use std::alloc::Global;
@@ -16,38 +15,25 @@ use std::hash::{Hash, Hasher};
 use tc_base::NoMemory;
 use tc_model::{Name, NodeTest, Step, Test};
 
-/// For each alternative of a path a truth value for each of its steps, one alternative behind the other: a path state, or which
-/// steps fit a letter.
+/// A bit for each step of a path's alternatives, one behind the other, 64 a word: a path state, or which steps fit a letter.
 #[derive(Drop)]
 pub(crate) struct Row {
-    /// Where each alternative ends.
-    ends: Vec<u32>,
-    values: Vec<bool>,
+    words: Vec<u64>,
 }
 
 impl PartialEq for Row {
     ghost use Rattle.std.proofs.Common.{rules};
-    ghost use Rattle.std.proofs.Math.Bool.{beq};
     ghost use Rattle.std.specs.Cmp.Lexicographic.{pointwise};
     ghost use Rattle.std.specs.Cmp.Rules.{comparing};
     ghost use Rattle.std.specs.Ordering.{on};
-    ghost use Rattle.tc_rules.specs.Cuts.{cut};
+    ghost use Rattle.std.specs.Prelude.{nat_eq};
 
-    ghost eq = { on (λ r. cut r.values.items 0 r.ends.items) (pointwise (pointwise beq)) };
+    ghost eq = { on (λ r. r.words.items) (pointwise nat_eq) };
 
     ghost laws = { Prim.search (comparing, rules) };
 
     fn eq(&self, other: &Row) -> bool {
-        let count = self.ends.len();
-        if count != other.ends.len() {
-            return false;
-        }
-        for i in 0..count {
-            if self.items_or_none(i) != other.items_or_none(i) {
-                return false;
-            }
-        }
-        true
+        self.words == other.words
     }
 }
 
@@ -59,28 +45,27 @@ impl Eq for Row {
 }
 
 impl Hash for Row {
+    ghost use Rattle.std.proofs.Common.{rules};
     ghost use Rattle.std.specs.Hash as fed;
-    ghost use Rattle.tc_rules.specs.Cuts.{cut, lists_alike};
+    ghost use Rattle.std.specs.Cmp.Rules.{hashing};
 
-    ghost hash_input = { λ r. fed.slice (fed.slice fed.bool) (cut r.values.items 0 r.ends.items) };
+    ghost hash_input = { λ r. fed.slice fed.u64 r.words.items };
 
-    ghost respects_eq = { (fed.on_Alike (λ r. cut r.values.items 0 r.ends.items) lists_alike).fed };
+    ghost respects_eq = { Prim.search (hashing, rules) };
 
     fn hash<H: Hasher>(&self, state: &mut H) {
-        let count = self.ends.len();
-        state.write_usize(count);
-        for i in 0..count {
-            self.items_or_none(i).hash(state);
-        }
+        self.words.hash(state);
     }
 }
 
-/// What is asked of each step: whether an element of this name, or a text, passes its node test, or whether its predicate is in
-/// this set.
+/// What is asked of each step: whether an element of this name, or a text, passes its node test, whether its predicate is in
+/// this set, whether `//` stands before it, or whether a step comes after it.
 #[derive(Clone, Copy)]
 pub(crate) enum Sought<'a> {
     Passes(Option<Name<'a>>),
     Marked(u32),
+    Deep,
+    Inner,
 }
 
 /// Whether an element of this name, or a text, passes a node test.
@@ -113,31 +98,37 @@ fn has_mark(marks: u32, number: usize) -> bool
     number < 32 && marks >> number & 1 == 1
 }
 
-/// Whether a step has what is asked.
-fn step_has(numbered: &[&Test<'_>], step: &Step<'_>, sought: &Sought<'_>) -> bool
-    ensures { result ≡ v.step_has numbered.now (see.node_test step.now.test) (see.test step.now.when) sought.now }
+/// Whether a step has what is asked, after which a step comes or not.
+fn step_has(numbered: &[&Test<'_>], step: &Step<'_>, goes_on: bool, sought: &Sought<'_>) -> bool
+    ensures { result ≡ v.step_has numbered.now step.now.deep goes_on (see.node_test step.now.test)
+        (see.test step.now.when) sought.now }
 {
     match sought {
         Sought::Passes(name) => passes(&step.test, name),
         Sought::Marked(marks) => is_marked(numbered, &step.when, *marks),
+        Sought::Deep => step.deep,
+        Sought::Inner => goes_on,
     }
 }
 
-/// Which of the steps have what is asked.
-fn steps_having(
-    alloc: Global,
+/// Which of an alternative's steps have what is asked, behind what was written.
+fn write_having(
+    written: &mut Written,
     numbered: &[&Test<'_>],
     steps: &[Step<'_>],
     sought: &Sought<'_>,
-) -> Result<Vec<bool>, NoMemory>
-    ensures { IfOk result (λ w. w.items ≡ v.steps_having numbered.now (see.steps steps.now) sought.now) }
+) -> Result<(), NoMemory>
+    requires { w.IsWritten written.old }
+    ensures made { OnOk result (w.IsWritten written.new) }
+    ensures bits { OnOk result (w.bits_of written.new ≡ w.bits_of written.old
+        ++ v.steps_having numbered.now (see.steps steps.now) sought.now) }
 {
-    let mut found = Vec::new(alloc);
-    for step in steps {
-        let has = step_has(numbered, step, sought);
-        found.push(has)?;
+    for (k, step) in steps.iter().enumerate() {
+        let goes_on = k + 1 < steps.len();
+        let has = step_has(numbered, step, goes_on, sought);
+        written.push(has)?;
     }
-    Ok(found)
+    Ok(())
 }
 
 /// Which steps of all alternatives have what is asked.
@@ -147,423 +138,345 @@ pub(crate) fn row_having(
     path: &[&[Step<'_>]],
     sought: &Sought<'_>,
 ) -> Result<Row, NoMemory>
-    ensures { IfOk result (λ r. state r ≡ v.path_having numbered.now (see.alternatives path.now) sought.now) }
+    ensures { IfOk result (λ r. w.IsRow (see.alternatives path.now)
+        (v.path_having numbered.now (see.alternatives path.now) sought.now) (words r)) }
 {
-    let mut row = Row::new(alloc, path.len())?;
+    let mut written = Written::new(alloc);
     for steps in path {
-        let found = steps_having(alloc, numbered, steps, sought)?;
-        row.push(&found)?;
+        write_having(&mut written, numbered, steps, sought)?;
     }
-    Ok(row)
+    Ok(Row {
+        words: written.words,
+    })
 }
 
-/// A row of no alternative: no step fits.
-pub(crate) fn no_fits(alloc: Global) -> Row
-    ensures { state result ≡ [] }
+/// No step of an alternative is taken, behind what was written.
+fn write_first(written: &mut Written, steps: &[Step<'_>]) -> Result<(), NoMemory>
+    requires { w.IsWritten written.old }
+    ensures made { OnOk result (w.IsWritten written.new) }
+    ensures bits { OnOk result (w.bits_of written.new ≡ w.bits_of written.old
+        ++ p.first_items (see.steps steps.now)) }
 {
-    Row {
-        ends: Vec::new(alloc),
-        values: Vec::new(alloc),
-    }
-}
-
-/// No step of an alternative is taken.
-fn first_items(alloc: Global, steps: &[Step<'_>]) -> Result<Vec<bool>, NoMemory>
-    ensures { IfOk result (λ w. w.items ≡ p.first_items (see.steps steps.now)) }
-{
-    let mut items = Vec::new(alloc);
     let mut first = true;
     for _step in steps {
-        items.push(first)?;
+        written.push(first)?;
         first = false;
     }
-    Ok(items)
+    Ok(())
 }
 
 /// The first state of a path.
 pub(crate) fn first_row(alloc: Global, path: &[&[Step<'_>]]) -> Result<Row, NoMemory>
-    ensures { IfOk result (λ r. state r ≡ p.first_state (see.alternatives path.now)) }
+    ensures { IfOk result (λ r. w.IsRow (see.alternatives path.now)
+        (p.first_state (see.alternatives path.now)) (words r)) }
 {
-    let mut row = Row::new(alloc, path.len())?;
+    let mut written = Written::new(alloc);
     for steps in path {
-        let items = first_items(alloc, steps)?;
-        row.push(&items)?;
+        write_first(&mut written, steps)?;
     }
-    Ok(row)
+    Ok(Row {
+        words: written.words,
+    })
 }
 
-/// The truth value at a place, and none where there is no such place.
-fn bit(bits: &[bool], at: usize) -> bool
-    ensures { result ≡ get_or bits.now at false }
+/// Where the steps of each alternative end.
+pub(crate) fn ends_of(alloc: Global, path: &[&[Step<'_>]]) -> Result<Vec<usize>, NoMemory>
+    ensures { IfOk result (λ e. e.items ≡ w.ends_of 0 (see.alternatives path.now)) }
 {
-    match bits.get(at) {
-        Some(value) => *value,
-        None => false,
+    let mut ends = Vec::with_capacity(alloc, path.len())?;
+    let mut end = 0usize;
+    for steps in path {
+        let Some(next) = end.checked_add(steps.len()) else {
+            return Err(NoMemory);
+        };
+        end = next;
+        ends.push(end)?;
+    }
+    Ok(ends)
+}
+
+/// The word at a place, and none where there is no such place.
+fn word_at(words: &[u64], at: usize) -> u64
+    ensures { result ≡ get_or words.now at 0 }
+{
+    match words.get(at) {
+        Some(word) => *word,
+        None => 0,
     }
 }
 
-/// What stands from one place to another.
-fn between(values: &[bool], start: usize, end: usize) -> &[bool]
-    ensures { result.now ≡ between start end values.now }
+/// A word whose bits are one place further on, with the bit that comes into the first place.
+fn further(word: u64, carry: u64) -> u64
+    ensures { result ≡ bit_or (w.shifted word) carry }
 {
-    let rest = &values[start.min(values.len())..];
-    &rest[..end.saturating_sub(start).min(rest.len())]
+    word << 1 | carry
 }
 
-/// Whether the last is true.
-fn is_last(bits: &[bool]) -> bool
-    ensures { result ≡ v.ends_true bits.now }
+/// The bit that goes out of the last place.
+fn carried(word: u64) -> u64
+    ensures { result ≡ word / 2 ^ 63 }
 {
-    match bits.last() {
-        Some(value) => *value,
-        None => false,
-    }
+    word >> 63
 }
 
-/// The items of an alternative one element further down, where these steps fit it.
-fn next_items(
-    alloc: Global,
-    steps: &[Step<'_>],
-    fits: &[bool],
-    items: &[bool],
-) -> Result<Vec<bool>, NoMemory>
-    ensures { IfOk result (λ w. w.items ≡ v.further (see.steps steps.now) fits.now false items.now) }
-{
-    let mut next = Vec::new(alloc);
-    let mut comes = false;
-    for (k, step) in steps.iter().enumerate() {
-        let here = bit(items, k);
-        let fit = bit(fits, k);
-        next.push(stays(here, step.deep, comes))?;
-        comes = are_both(here, fit);
-    }
-    Ok(next)
-}
-
-/// Whether an item is there one element further down: it stays, or it comes from the step before.
-fn stays(here: bool, deep: bool, comes: bool) -> bool
-    ensures { result ≡ ((here && deep) || comes) }
-{
-    here && deep || comes
-}
-
-/// Whether both are true.
-fn are_both(first: bool, second: bool) -> bool
-    ensures { result ≡ (first && second) }
-{
-    first && second
-}
-
-/// The state of a path one element further down.
+/// The state one element further down, by the items that stay and those that may move on, where these predicates hold.
 pub(crate) fn next_row(
     alloc: Global,
-    path: &[&[Step<'_>]],
-    fits: &Row,
-    row: &Row,
+    staying: &Row,
+    moving: &Row,
+    marks: &Row,
 ) -> Result<Row, NoMemory>
-    ensures { IfOk result (λ r. state r ≡ v.next_state (see.alternatives path.now) (state fits.now) (state row.now)) }
+    ensures { IfOk result (λ r. words r
+        ≡ w.further_words 0 (words staying.now)
+        (w.both_words (words moving.now) (words marks.now))) }
 {
-    let mut further = Row::new(alloc, path.len())?;
-    for i in 0..path.len().min(row.ends.len()) {
-        let next = next_items(alloc, path[i], fits.items_or_none(i), row.items_or_none(i))?;
-        further.push(&next)?;
+    let count = staying.words.len();
+    let mut words = Vec::with_capacity(alloc, count)?;
+    let mut carry = 0u64;
+    for k in 0..count {
+        let moved = word_at(&moving.words, k) & word_at(&marks.words, k);
+        words.push(staying.words[k] | further(moved, carry))?;
+        carry = carried(moved);
     }
-    Ok(further)
+    Ok(Row { words })
 }
 
-/// Whether the item of a step moves on to the next one, where these steps fit.
-fn moves_from(steps: &[Step<'_>], fits: &[bool], items: &[bool], step: usize) -> bool
-    requires { step < length steps.now }
-    ensures { result ≡ (v.has_step (see.steps (drop (step + 1) steps.now)) && (get_or items.now step false && get_or fits.now step false)) }
+/// Whether two sets of predicates have the same where items may move on.
+fn are_alike(moving: &Row, marks: &Row, others: &Row) -> bool
+    ensures { result ≡ w.are_alike (words moving.now) (words marks.now) (words others.now) }
 {
-    step + 1 < steps.len() && are_both(bit(items, step), bit(fits, step))
-}
-
-/// Whether an item moves on from one of the steps to the next, where these steps fit.
-fn item_moves(steps: &[Step<'_>], fits: &[bool], items: &[bool]) -> bool
-    ensures { result ≡ v.item_moves (see.steps steps.now) fits.now items.now }
-{
-    for (k, _step) in steps.iter().enumerate() {
-        if moves_from(steps, fits, items, k) {
-            return true;
-        }
-    }
-    false
-}
-
-/// Whether an item of some alternative moves on from a step to the next, where these steps fit.
-fn some_item_moves(path: &[&[Step<'_>]], fits: &Row, row: &Row) -> bool
-    ensures { result ≡ v.some_item_moves (see.alternatives path.now) (state fits.now) (state row.now) }
-{
-    for (i, steps) in path.iter().enumerate() {
-        if item_moves(steps, fits.items_or_none(i), row.items_or_none(i)) {
-            return true;
-        }
-    }
-    false
-}
-
-/// One place more, if an item moves on from it.
-fn add_place(
-    found: &mut Vec<(usize, usize)>,
-    alternative: usize,
-    step: usize,
-    moves: bool,
-) -> Result<(), NoMemory>
-    ensures { OnOk result (found.new.items ≡ found.old.items ++ (if moves then (alternative, step) ∷ [] else [])) }
-{
-    if moves {
-        found.push((alternative, step))?;
-    }
-    Ok(())
-}
-
-/// The places of an alternative from which items move on, where these steps fit.
-fn add_places(
-    found: &mut Vec<(usize, usize)>,
-    alternative: usize,
-    steps: &[Step<'_>],
-    fits: &[bool],
-    items: &[bool],
-) -> Result<(), NoMemory>
-    ensures { OnOk result (found.new.items ≡ found.old.items ++ v.moving_items alternative 0 (see.steps steps.now) fits.now items.now) }
-{
-    for (k, _step) in steps.iter().enumerate() {
-        let moves = moves_from(steps, fits, items, k);
-        add_place(found, alternative, k, moves)?;
-    }
-    Ok(())
-}
-
-/// The places, by alternative and by step, from which items move on, where these steps fit.
-pub(crate) fn moving_places(
-    alloc: Global,
-    path: &[&[Step<'_>]],
-    fits: &Row,
-    row: &Row,
-) -> Result<Vec<(usize, usize)>, NoMemory>
-    ensures { IfOk result (λ w. w.items ≡ v.moving_from 0 (see.alternatives path.now) (state fits.now) (state row.now)) }
-{
-    let mut found = Vec::new(alloc);
-    for (i, steps) in path.iter().enumerate() {
-        add_places(
-            &mut found,
-            i,
-            steps,
-            fits.items_or_none(i),
-            row.items_or_none(i),
-        )?;
-    }
-    Ok(found)
-}
-
-/// Whether two truth values are the same.
-fn are_same(first: bool, second: bool) -> bool
-    ensures { result ≡ same_truth first second }
-{
-    if first { second } else { !second }
-}
-
-/// Whether two rows have the same at some places.
-fn are_alike(places: &[(usize, usize)], row: &Row, other: &Row) -> bool
-    ensures { result ≡ v.are_alike places.now (state row.now) (state other.now) }
-{
-    for at in places {
-        if !are_same(row.value_at(*at), other.value_at(*at)) {
+    for k in 0..moving.words.len() {
+        let word = moving.words[k];
+        if word & word_at(&marks.words, k) != word & word_at(&others.words, k) {
             return false;
         }
     }
     true
 }
 
-/// A set of predicates that has the same as one at some places, by its number: the first, or the one itself.
-pub(crate) fn first_alike(places: &[(usize, usize)], marked: &[Row], number: usize) -> usize
+/// The predicates that are asked where items may move on, one bit each: a set is like the one of these alone.
+pub(crate) fn asked_predicates(moving: &Row, marked: &[Row]) -> usize {
+    let mut asked = 0usize;
+    for number in 0..32u32 {
+        if changes(moving, marked, 1usize << number) {
+            asked = asked | 1usize << number;
+        }
+    }
+    asked
+}
+
+/// Whether a set of predicates has not the same as the empty one where items may move on.
+fn changes(moving: &Row, marked: &[Row], number: usize) -> bool {
+    match (marked.first(), marked.get(number)) {
+        (Some(none), Some(one)) => !are_alike(moving, none, one),
+        _ => false,
+    }
+}
+
+/// A set of predicates before this one that has the same where items may move on, or else this one, by its number.
+pub(crate) fn first_alike(moving: &Row, marked: &[Row], asked: usize, number: usize) -> usize
     requires { number < length marked.now }
     ensures within { result ≤ number }
-    ensures alike { (x y : p.State) → slice_get (states marked.now) result ≡ Some x → slice_get (states marked.now) number ≡ Some y → result < number → v.are_alike places.now x y ≡ true }
+    ensures alike { w.both_words (words moving.now) (get_or (all_words marked.now) result [])
+        ≡ w.both_words (words moving.now) (get_or (all_words marked.now) number []) }
 {
-    for before in 0..number {
-        if are_alike(places, &marked[before], &marked[number]) {
-            return before;
-        }
+    let before = number & asked;
+    if before < number && are_alike(moving, &marked[before], &marked[number]) {
+        return before;
     }
     number
 }
 
-/// Whether an item of some alternative may move on: the row stands for the steps that fit too, so each item that is there fits.
-pub(crate) fn some_item_waits(path: &[&[Step<'_>]], row: &Row) -> bool
-    ensures { result ≡ v.some_item_waits (see.alternatives path.now) (state row.now) }
-{
-    some_item_moves(path, row, row)
-}
-
-/// Whether an item of some alternative moves on, if it is known whether one may.
-pub(crate) fn waiting_item_moves(waits: bool, path: &[&[Step<'_>]], fits: &Row, row: &Row) -> bool
-    requires { waits ≡ v.some_item_waits (see.alternatives path.now) (state row.now) }
-    ensures { result ≡ v.some_item_moves (see.alternatives path.now) (state fits.now) (state row.now) }
-{
-    waits && some_item_moves(path, fits, row)
-}
-
-/// The truth values that both have.
-fn both_items(alloc: Global, items: &[bool], others: &[bool]) -> Result<Vec<bool>, NoMemory>
-    ensures { IfOk result (λ w. w.items ≡ v.both_items items.now others.now) }
-{
-    let mut both = Vec::new(alloc);
-    for k in 0..items.len() {
-        let has = are_both(bit(items, k), bit(others, k));
-        both.push(has)?;
-    }
-    Ok(both)
-}
-
-/// Whether the last of what both have is true.
-fn is_last_of_both(items: &[bool], others: &[bool]) -> bool
-    ensures { result ≡ v.ends_true (v.both_items items.now others.now) }
-{
-    is_last(items) && bit(others, items.len().saturating_sub(1))
-}
-
-/// One alternative more, if its last value is true.
-fn add_ending(ending: &mut Vec<usize>, items: &[bool], alternative: usize) -> Result<(), NoMemory>
-    ensures { OnOk result (ending.new.items ≡ ending.old.items ++ (if v.ends_true items.now then alternative ∷ [] else [])) }
-{
-    if is_last(items) {
-        ending.push(alternative)?;
-    }
-    Ok(())
-}
-
-/// Whether some item is there.
-fn has_item(items: &[bool]) -> bool
-    ensures { result ≡ list_any (λ b. b) items.now }
-{
-    items.iter().any(|item| *item)
-}
-
 impl Row {
-    /// A row without alternatives, with room for so many.
-    fn new(alloc: Global, alternatives: usize) -> Result<Row, NoMemory>
-        ensures made { IfOk result (λ r. IsMade r) }
-        ensures state { IfOk result (λ r. state r ≡ []) }
-    {
-        let ends = Vec::with_capacity(alloc, alternatives)?;
-        let values = Vec::with_capacity(alloc, alternatives)?;
-        Ok(Row { ends, values })
-    }
-
-    /// One more alternative.
-    fn push(&mut self, items: &[bool]) -> Result<(), NoMemory>
-        requires { IsMade self.old }
-        ensures made { OnOk result (IsMade self.new) }
-        ensures state { OnOk result (state self.new ≡ state self.old ++ items.now ∷ []) }
-    {
-        self.values.extend_from_slice(items)?;
-        let Ok(end) = u32::try_from(self.values.len()) else {
-            return Err(NoMemory);
-        };
-        self.ends.push(end)?;
-        Ok(())
-    }
-
-    /// Where an alternative begins.
-    fn start(&self, alternative: usize) -> usize
-        ensures { result ≡ get_or (0 ∷ self.now.ends.items) alternative 0 }
-    {
-        if alternative == 0 {
-            return 0;
-        }
-        match self.ends.get(alternative - 1) {
-            Some(end) => *end as usize,
-            None => 0,
-        }
-    }
-
-    /// The values of an alternative.
-    fn items_at(&self, alternative: usize) -> Option<&[bool]>
-        ensures { MatchOption result (slice_get (state self.now) alternative ≡ None) (λ s. slice_get (state self.now) alternative ≡ Some s.now) }
-    {
-        let Some(end) = self.ends.get(alternative) else {
-            return None;
-        };
-        let start = self.start(alternative);
-        Some(between(&self.values, start, *end as usize))
-    }
-
-    /// The values of an alternative, and none where there is no such alternative.
-    fn items_or_none(&self, alternative: usize) -> &[bool]
-        ensures { result.now ≡ get_or (state self.now) alternative [] }
-    {
-        match self.items_at(alternative) {
-            Some(items) => items,
-            None => &[],
-        }
-    }
-
-    /// The value at a place.
-    fn value_at(&self, at: (usize, usize)) -> bool
-        ensures { result ≡ v.value_at (state self.now) at }
-    {
-        bit(self.items_or_none(at.0), at.1)
-    }
-
-    /// The truth values that both have.
+    /// The bits that both have.
     pub(crate) fn both(&self, alloc: Global, other: &Row) -> Result<Row, NoMemory>
-        ensures { IfOk result (λ r. state r ≡ v.both_states (state self.now) (state other.now)) }
+        ensures { IfOk result (λ r. words r ≡ w.both_words (words self.now) (words other.now)) }
     {
-        let mut row = Row::new(alloc, self.ends.len())?;
-        for i in 0..self.ends.len() {
-            let both = both_items(alloc, self.items_or_none(i), other.items_or_none(i))?;
-            row.push(&both)?;
+        let count = self.words.len();
+        let mut words = Vec::with_capacity(alloc, count)?;
+        for k in 0..count {
+            words.push(self.words[k] & word_at(&other.words, k))?;
         }
-        Ok(row)
+        Ok(Row { words })
     }
 
-    /// Whether no item is left.
-    pub(crate) fn is_empty(&self) -> bool
-        ensures { result ≡ p.is_empty_state (state self.now) }
+    /// A copy of it.
+    pub(crate) fn copied(&self, alloc: Global) -> Result<Row, NoMemory>
+        ensures { IfOk result (λ r. words r ≡ words self.now) }
     {
-        for i in 0..self.ends.len() {
-            if has_item(self.items_or_none(i)) {
+        let mut words = Vec::with_capacity(alloc, self.words.len())?;
+        words.extend_from_slice(&self.words)?;
+        Ok(Row { words })
+    }
+
+    /// Whether no bit is set.
+    pub(crate) fn is_empty(&self) -> bool
+        ensures { result ≡ w.are_zero (words self.now) }
+    {
+        for word in &self.words {
+            if *word != 0 {
                 return false;
             }
         }
         true
     }
 
-    /// Whether the last step of an alternative fits, being in both of these rows, and all before it may have been taken.
-    pub(crate) fn ends(&self, fits: &Row, marked: &Row, alternative: usize) -> bool
-        ensures { result ≡ v.ends_at (state self.now) (v.both_states (state fits.now) (state marked.now)) alternative }
+    /// Whether no bit is set in both.
+    pub(crate) fn is_apart(&self, other: &Row) -> bool
+        ensures { result ≡ w.are_zero (w.both_words (words self.now) (words other.now)) }
     {
-        let Some(items) = self.items_at(alternative) else {
+        for k in 0..self.words.len() {
+            if self.words[k] & word_at(&other.words, k) != 0 {
+                return false;
+            }
+        }
+        true
+    }
+
+    /// Whether the bit of a step is set.
+    fn has(&self, step: usize) -> bool
+        ensures { result ≡ w.bit (words self.now) step }
+    {
+        word_at(&self.words, step / 64) >> (step % 64) & 1 == 1
+    }
+
+    /// Whether the bit of an alternative's last step is set.
+    fn has_last(&self, ends: &[usize], alternative: usize) -> bool
+        ensures { result ≡ v.ends_true (get_or (state ends.now self.now) alternative []) }
+    {
+        let Some(end) = ends.get(alternative) else {
             return false;
         };
-        let Some(fit) = fits.items_at(alternative) else {
-            return false;
-        };
-        is_last(items) && is_last_of_both(fit, marked.items_or_none(alternative))
+        let start = start_of(ends, alternative);
+        start < *end && self.has(*end - 1)
+    }
+
+    /// Whether the last step of an alternative fits, being in both of these rows, and all before it may have been taken.
+    pub(crate) fn ends(&self, ends: &[usize], fits: &Row, marked: &Row, alternative: usize) -> bool
+        ensures { result ≡ v.ends_at (state ends.now self.now)
+            (v.both_states (state ends.now fits.now) (state ends.now marked.now)) alternative }
+    {
+        let here = self.has_last(ends, alternative);
+        let fit = fits.has_last(ends, alternative);
+        let holds = marked.has_last(ends, alternative);
+        are_all(here, fit, holds)
     }
 
     /// The alternatives of which all steps but the last may have been taken.
-    pub(crate) fn ending(&self, alloc: Global) -> Result<Vec<usize>, NoMemory>
-        ensures { IfOk result (λ w. w.items ≡ v.ending_alternatives 0 (state self.now)) }
+    pub(crate) fn ending(&self, alloc: Global, ends: &[usize]) -> Result<Vec<usize>, NoMemory>
+        ensures { IfOk result (λ w. w.items ≡ v.ending_alternatives 0 (state ends.now self.now)) }
     {
         let mut ending = Vec::new(alloc);
-        for i in 0..self.ends.len() {
-            add_ending(&mut ending, self.items_or_none(i), i)?;
+        for i in 0..ends.len() {
+            let has_last = self.has_last(ends, i);
+            add_ending(&mut ending, has_last, i)?;
         }
         Ok(ending)
     }
 
     /// Whether one of these alternatives ends.
-    pub(crate) fn hits_by(&self, ending: &[usize], fits: &Row, marked: &Row) -> bool
-        ensures { result ≡ list_any (v.ends_at (state self.now) (v.both_states (state fits.now) (state marked.now))) ending.now }
+    pub(crate) fn hits_by(&self, ends: &[usize], ending: &[usize], fits: &Row, marked: &Row) -> bool
+        ensures { result ≡ list_any
+            (v.ends_at (state ends.now self.now)
+            (v.both_states (state ends.now fits.now) (state ends.now marked.now))) ending.now }
     {
         for alternative in ending {
-            if self.ends(fits, marked, *alternative) {
+            if self.ends(ends, fits, marked, *alternative) {
                 return true;
             }
         }
         false
     }
+}
+
+/// Whether all three are true.
+fn are_all(first: bool, second: bool, third: bool) -> bool
+    ensures { result ≡ (first && (second && third)) }
+{
+    first && (second && third)
+}
+
+/// Where the steps of an alternative begin.
+fn start_of(ends: &[usize], alternative: usize) -> usize
+    ensures { result ≡ get_or (0 ∷ ends.now) alternative 0 }
+{
+    if alternative == 0 {
+        return 0;
+    }
+    match ends.get(alternative - 1) {
+        Some(end) => *end,
+        None => 0,
+    }
+}
+
+/// One alternative more, if its last step's bit is set.
+fn add_ending(ending: &mut Vec<usize>, has_last: bool, alternative: usize) -> Result<(), NoMemory>
+    ensures { OnOk result (ending.new.items ≡ ending.old.items
+        ++ (if has_last then alternative ∷ [] else [])) }
+{
+    if has_last {
+        ending.push(alternative)?;
+    }
+    Ok(())
+}
+
+/// A row that is written bit by bit.
+#[derive(Drop)]
+struct Written {
+    words: Vec<u64>,
+    /// How many bits were written.
+    len: usize,
+}
+
+impl Written {
+    /// A row without bits.
+    fn new(alloc: Global) -> Written
+        ensures made { w.IsWritten result }
+        ensures bits { w.bits_of result ≡ [] }
+    {
+        Written {
+            words: Vec::new(alloc),
+            len: 0,
+        }
+    }
+
+    /// One bit more.
+    fn push(&mut self, value: bool) -> Result<(), NoMemory>
+        requires { w.IsWritten self.old }
+        ensures made { OnOk result (w.IsWritten self.new) }
+        ensures bits { OnOk result (w.bits_of self.new ≡ w.bits_of self.old ++ value ∷ []) }
+    {
+        let Some(len) = self.len.checked_add(1) else {
+            return Err(NoMemory);
+        };
+        make_room(&mut self.words, self.len)?;
+        set_if(&mut self.words, self.len, value);
+        self.len = len;
+        Ok(())
+    }
+}
+
+/// Room for one bit more, behind so many.
+fn make_room(words: &mut Vec<u64>, len: usize) -> Result<(), NoMemory>
+    requires { w.IsPadded len words.old.items }
+    ensures room { OnOk result (w.IsPadded (len + 1) words.new.items) }
+    ensures bits { OnOk result ((i : ℕ) → w.bit words.new.items i ≡ w.bit words.old.items i) }
+{
+    if len % 64 != 0 {
+        return Ok(());
+    }
+    words.push(0)?;
+    Ok(())
+}
+
+/// Sets a bit, or not.
+fn set_if(words: &mut Vec<u64>, at: usize, value: bool)
+    requires { at / 64 < length words.old.items }
+    ensures { words.new.items ≡ (if value then w.with_bit words.old.items at else words.old.items) }
+{
+    if !value {
+        return;
+    }
+    let word = at / 64;
+    words[word] = words[word] | 1u64 << (at % 64);
 }

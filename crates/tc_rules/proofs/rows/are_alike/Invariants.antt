@@ -1,7 +1,6 @@
 use Rattle.std.proofs.Common.{◌≡◌, drop}
-use Rattle.tc_rules.specs.Rows.{state}
-use Rattle.tc_rules.specs.Steps as v
+use Rattle.tc_rules.specs.Words as w
 use Rattle.tc_rules.proofs.rows.are_alike.Given as goal
 
-abbrev pub invariant-loop-at : goal.invariant-loop-at
-invariant-loop-at l = v.are_alike l.places (state l.row) (state l.other) ≡ v.are_alike (drop l.at-index l.places) (state l.row) (state l.other)
+abbrev pub invariant-loop-k : goal.invariant-loop-k
+invariant-loop-k l = w.are_alike l.moving.words.items l.marks.words.items l.others.words.items ≡ w.are_alike (drop l.k l.moving.words.items) (drop l.k l.marks.words.items) (drop l.k l.others.words.items)

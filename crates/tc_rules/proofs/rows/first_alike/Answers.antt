@@ -1,16 +1,14 @@
-use Rattle.std.proofs.Common.{◌∙◌, ◌<◌, refl, sym, length, arith}
-use Rattle.tc_rules.proofs.RowPairs.{got_at}
-use Rattle.tc_rules.proofs.SetsAlike.{rows_alike}
+use Rattle.std.proofs.Common.{◌<◌, ◌∙◌, ap, sym, length, arith}
+use Rattle.tc_rules.specs.Rows.{words}
+use Rattle.tc_rules.specs.Words.{both_words}
+use Rattle.tc_rules.proofs.RowLoops.{alike_both, words_got}
 use Rattle.tc_rules.proofs.rows.first_alike.Goals as goal
 
 pub returns-then-are_alike-clause-alike : goal.returns-then-are_alike-clause-alike
-returns-then-are_alike-clause-alike c = λ x y ex ey l.
-    let marked = c.args.marked.now in
-    let a = c.index-marked-before.result in
-    let b = c.index-marked-number.result in
-    let inside : c.loop-before.before < length marked = omega (arith, c.loop-before-test.true, c.requires) in
-    rows_alike c.args.places.now marked c.loop-before.before c.args.number a b x y (got_at marked marked c.loop-before.before a refl inside c.index-marked-before.is)
-    (got_at marked marked c.args.number b refl c.requires c.index-marked-number.is) ex ey (sym c.are_alike.ensures ∙ c.if-are_alike.true)
-
-pub returns-clause-alike : goal.returns-clause-alike
-returns-clause-alike c = λ x y ex ey l. absurd (omega (arith, l))
+returns-then-are_alike-clause-alike c =
+    let moving = words c.args.moving.now in
+    let before = c.index-marked-before.result in
+    let row = c.index-marked-number.result in
+    let l = c.requires in
+    ap (both_words moving) (words_got c.args.marked.now _ before (omega (arith, c.if-before-number.true, l)) c.index-marked-before.is)
+    ∙ (alike_both moving (words before) (words row) (sym c.are_alike.ensures ∙ c.if-are_alike.true) ∙ ap (both_words moving) (sym (words_got c.args.marked.now c.args.number row l c.index-marked-number.is)))

@@ -1,23 +1,24 @@
-use Rattle.std.proofs.Common.{◌∙◌}
-use Rattle.tc_model.specs.PathStates.{first_state}
 use Rattle.tc_model.specs.Views as see
-use Rattle.tc_rules.specs.Rows.{state}
-use Rattle.tc_rules.proofs.RowSteps.{begun}
-use Rattle.tc_rules.proofs.RowLoops.{first_more, first_all}
+use Rattle.tc_model.specs.PathStates.{first_state}
+use Rattle.tc_rules.specs.Words.{bits_of}
+use Rattle.tc_rules.proofs.RowLoops.{first_path_goes, first_path_long, over_first_path}
+use Rattle.tc_rules.proofs.RowSteps.{begun, ended}
+use Rattle.tc_rules.proofs.Writing.{flat, row_is}
 use Rattle.tc_rules.proofs.rows.first_row.Goals as goal
 
 pub loop-steps-init : goal.loop-steps-init
-loop-steps-init c = (c.in_ok-row.ensures.made, begun (first_state (see.alternatives c.args.path.now)) (state c.in_ok-row.row) c.in_ok-row.ensures.state)
+loop-steps-init c = (c.new-written.ensures.made, begun (flat (first_state (see.alternatives c.args.path.now))) (bits_of c.new-written.result) c.new-written.ensures.bits)
 
-pub push-requires : goal.push-requires
-push-requires c = c.loop-steps.invariant.0
+pub write_first-requires : goal.write_first-requires
+write_first-requires c = c.loop-steps.invariant.0
 
 pub loop-steps-preserved : goal.loop-steps-preserved
 loop-steps-preserved c = (
-  c.in_ok-push.ensures.made,
-  first_more (first_state (see.alternatives c.args.path.now)) (state c.loop-steps.row) (state c.push.new.self) c.deref.result.now c.args.path.now c.loop-steps.steps-index _ c.loop-steps-test.true
-      (c.deref.ensures.value ∙ c.in_ok-items.ensures) c.in_ok-push.ensures.state c.loop-steps.invariant.1,
+  c.in_ok-write_first.ensures.made,
+  first_path_goes (flat (first_state (see.alternatives c.args.path.now))) (bits_of c.loop-steps.written) (bits_of c.write_first.new.written) c.args.path.now c.loop-steps.steps-index _ c.loop-steps-test.true c.in_ok-write_first.ensures.bits c.loop-steps.invariant.1,
 )
 
 pub returns : goal.returns
-returns c = first_all (first_state (see.alternatives c.args.path.now)) (state c.loop-steps.row) c.args.path.now c.loop-steps.steps-index c.loop-steps-test.false c.loop-steps.invariant.1
+returns c =
+    row_is (see.alternatives c.args.path.now) (first_state (see.alternatives c.args.path.now)) c.loop-steps.written.len c.loop-steps.written.words.items (first_path_long (see.alternatives c.args.path.now)) c.loop-steps.invariant.0
+    (ended (flat (first_state (see.alternatives c.args.path.now))) (bits_of c.loop-steps.written) _ (over_first_path c.args.path.now c.loop-steps.steps-index c.loop-steps-test.false) c.loop-steps.invariant.1)

@@ -1,11 +1,6 @@
 use Rattle.std.proofs.Common.{◌≡◌, ◌++◌, drop}
-use Rattle.tc_model.specs.Views as see
-use Rattle.tc_rules.specs.Rows.{state, IsMade}
-use Rattle.tc_rules.specs.Steps as v
+use Rattle.tc_rules.specs.Words as w
 use Rattle.tc_rules.proofs.rows.next_row.Given as goal
 
-abbrev pub invariant-loop-i : goal.invariant-loop-i
-invariant-loop-i l =
-    IsMade l.further
-    × (v.next_state (see.alternatives l.path) (state l.fits) (state l.row)
-    ≡ state l.further ++ v.next_state (see.alternatives (drop l.i l.path)) (drop l.i (state l.fits)) (drop l.i (state l.row)))
+abbrev pub invariant-loop-k : goal.invariant-loop-k
+invariant-loop-k l = w.further_words 0 l.staying.words.items (w.both_words l.moving.words.items l.marks.words.items) ≡ l.words.items ++ w.further_words l.carry (drop l.k l.staying.words.items) (drop l.k (w.both_words l.moving.words.items l.marks.words.items))

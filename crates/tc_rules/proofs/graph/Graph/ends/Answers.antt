@@ -1,4 +1,4 @@
-use Rattle.std.proofs.Common.{◌≡◌, ◌∙◌, ap, sym, None, Some}
+use Rattle.std.proofs.Common.{List, ℕ, ◌≡◌, ◌∙◌, ap, sym, None, Some}
 use Rattle.tc_rules.specs.Rows.{state}
 use Rattle.tc_rules.specs.Steps.{both_states, ends_at}
 use Rattle.tc_rules.proofs.Pieces.{unmapped_at}
@@ -7,7 +7,7 @@ use Rattle.tc_rules.proofs.graph.Graph.ends.Goals as goal
 
 pub returns-in_default : goal.returns-in_default
 returns-in_default c = λ x fit e h.
-    let row = unmapped_at state c.args.self.now.states.keys c.args.number x e in
+    let row = unmapped_at (state c.args.self.now.letters.ends.items) c.args.self.now.states.keys c.args.number x e in
     absurd (none_some _ (c.in_default.ensures.key ∙ row.1))
 
 pub returns-in_default-kind : goal.returns-in_default-kind
@@ -23,7 +23,7 @@ returns-in_default-marked c = λ x fit e h.
 pub returns : goal.returns
 returns c = λ x fit e h.
     let row = c.in-Some.row.now in
-    let at : state row ≡ x = state_is c.args.self.now.states.keys c.args.number row x (sym c.in-Some.ensures.key) e in
-    let fits : both_states (state c.in-Some-kind.kind.now) (state c.in-Some-marked.marked.now) ≡ fit =
+    let at : state c.args.self.now.letters.ends.items row ≡ x = state_is c.args.self.now.letters.ends.items c.args.self.now.states.keys c.args.number row x (sym c.in-Some.ensures.key) e in
+    let fits : both_states (state c.args.self.now.letters.ends.items c.in-Some-kind.kind.now) (state c.args.self.now.letters.ends.items c.in-Some-marked.marked.now) ≡ fit =
     fit_is c.args.self.now c.args.symbol c.args.marks fit c.in-Some-kind.kind c.in-Some-marked.marked c.in-Some-kind.ensures.element c.in-Some-kind.ensures.text c.in-Some-marked.ensures h in
-    c.ends.ensures ∙ (ap (λ w. ends_at w (both_states (state c.in-Some-kind.kind.now) (state c.in-Some-marked.marked.now)) c.args.alternative) at ∙ ap (λ w. ends_at x w c.args.alternative) fits)
+    c.ends.ensures ∙ (ap (λ (es : List ℕ). ends_at (state es c.in-Some.row.now) (both_states (state es c.in-Some-kind.kind.now) (state es c.in-Some-marked.marked.now)) c.args.alternative) c.deref.ensures.value ∙ (ap (λ w. ends_at w (both_states (state c.args.self.now.letters.ends.items c.in-Some-kind.kind.now) (state c.args.self.now.letters.ends.items c.in-Some-marked.marked.now)) c.args.alternative) at ∙ ap (λ w. ends_at x w c.args.alternative) fits))

@@ -5,4 +5,4 @@ use Rattle.tc_rules.proofs.SelectStates.{is_none}
 use Rattle.tc_rules.proofs.graph.Graph.is_empty.Goals as goal
 
 pub returns : goal.returns
-returns c = ap (λ n. n == 0) (c.len.ensures.len ∙ sym (length-map c.args.self.now.states.keys state)) ∙ is_none _
+returns c = ap (λ n. n == 0) (c.len.ensures.len ∙ sym (length-map c.args.self.now.states.keys (state c.args.self.now.letters.ends.items))) ∙ is_none _

@@ -1,6 +1,6 @@
 use Rattle.std.proofs.Common.{◌≡◌, ◌∙◌, ap, sym, subst, Some, slice_get}
 use Rattle.tc_rules.specs.Graphs.{class_of}
-use Rattle.tc_rules.specs.Rows.{states, graph, leads}
+use Rattle.tc_rules.specs.Rows.{all_words, graph, leads}
 use Rattle.tc_rules.specs.declared.graph.Leads.{Leads}
 use Rattle.tc_rules.proofs.RowPairs.{got_at, lead_told, lead_alike}
 use Rattle.tc_rules.proofs.graph.Graph.step.Goals as goal
@@ -8,7 +8,7 @@ use Rattle.tc_rules.proofs.graph.Graph.step.Goals as goal
 pub returns-in-Alike : goal.returns-in-Alike
 returns-in-Alike c = λ j e.
     let g = c.args.self.now in
-    let marked = states g.letters.marked.items in
+    let marked = all_words g.letters.marked.items in
     let k = class_of (graph g) c.args.symbol in
     let v = c.in-Some.of_state.now in
     let l = c.in-Some-get.of_class.now in
@@ -21,7 +21,7 @@ returns-in-Alike c = λ j e.
 pub returns-in-BySet : goal.returns-in-BySet
 returns-in-BySet c = λ j e.
     let g = c.args.self.now in
-    let marked = states g.letters.marked.items in
+    let marked = all_words g.letters.marked.items in
     let k = class_of (graph g) c.args.symbol in
     let v = c.in-Some.of_state.now in
     let l = c.in-Some-get.of_class.now in

@@ -1,8 +1,7 @@
 use Rattle.std.proofs.Common.{take}
 use Rattle.tc_model.specs.Views as see
-use Rattle.tc_rules.specs.Classes.{AreKinds}
-use Rattle.tc_rules.specs.Rows.{states}
+use Rattle.tc_rules.specs.Classes.{AreKindsOf}
 use Rattle.tc_rules.proofs.graph.Source.kinds.Given as goal
 
 abbrev pub invariant-loop-name : goal.invariant-loop-name
-invariant-loop-name l = AreKinds l.self.predicates.items (see.alternatives l.path) (take l.name-index l.self.names.items) (states l.found.kinds.keys) l.found.classes.items
+invariant-loop-name l = AreKindsOf l.self.predicates.items (see.alternatives l.path) (take l.name-index l.self.names.items) l.found

@@ -1,28 +1,22 @@
-use Rattle.std.proofs.Common.{◌<◌, ◌≤◌, ◌∙◌, length, arith}
-use Rattle.tc_rules.specs.Rows.{state}
-use Rattle.tc_rules.specs.Steps.{both_states}
-use Rattle.tc_rules.proofs.Cuts.{length_state}
-use Rattle.tc_rules.proofs.RowPairs.{both_alternative, alternatives_over}
-use Rattle.tc_rules.proofs.RowSteps.{begun}
+use Rattle.std.proofs.Common.{◌<◌, ◌≤◌, length, arith}
+use Rattle.tc_rules.specs.Words.{both_words}
+use Rattle.tc_rules.proofs.RowLoops.{both_goes, met_is, over_both}
+use Rattle.tc_rules.proofs.RowSteps.{begun, ended}
 use Rattle.tc_rules.proofs.rows.Row.both.Goals as goal
 
-pub loop-i-init : goal.loop-i-init
-loop-i-init c = (c.in_ok-row.ensures.made, begun (both_states (state c.args.self.now) (state c.args.other.now)) (state c.in_ok-row.row) c.in_ok-row.ensures.state)
+pub loop-k-init : goal.loop-k-init
+loop-k-init c = begun (both_words c.args.self.now.words.items c.args.other.now.words.items) c.in_ok-words.words.items c.in_ok-words.ensures.items
 
-pub push-requires : goal.push-requires
-push-requires c = c.loop-i.invariant.0
-
-pub loop-i-preserved : goal.loop-i-preserved
-loop-i-preserved c =
-    let size = length_state c.args.self.now in
-    let inside : c.loop-i.i < length (state c.args.self.now) = omega (arith, size) in (
-      c.in_ok-push.ensures.made,
-      both_alternative (both_states (state c.args.self.now) (state c.args.other.now)) (state c.args.self.now) (state c.args.other.now) (state c.loop-i.row) (state c.push.new.self) c.deref.result.now c.items_or_none.result.now c.items_or_none-in-loop-i.result.now c.loop-i.i inside
-          c.items_or_none.ensures c.items_or_none-in-loop-i.ensures (c.deref.ensures.value ∙ c.in_ok-both.ensures) c.in_ok-push.ensures.state c.loop-i.invariant.1,
-    )
+pub loop-k-preserved : goal.loop-k-preserved
+loop-k-preserved c =
+    let xs = c.args.self.now.words.items in
+    let ys = c.args.other.now.words.items in
+    let l : c.loop-k.k < length xs = omega (arith, c.loop-k-test.true, c.len-count.ensures) in
+    both_goes xs ys c.loop-k.k l (both_words xs ys) c.loop-k.words.items c.push.new.self.items _ (met_is xs ys c.deref.result.now c.loop-k.k c.index.result.now c.word_at.result l c.index.ensures c.word_at.ensures c.deref.ensures.value) c.in_ok-push.ensures.items c.loop-k.invariant
 
 pub returns : goal.returns
 returns c =
-    let size = length_state c.args.self.now in
-    let over : length (state c.args.self.now) ≤ c.loop-i.i = omega (arith, size) in
-    alternatives_over (both_states (state c.args.self.now) (state c.args.other.now)) (state c.args.self.now) (state c.args.other.now) (state c.loop-i.row) c.loop-i.i over c.loop-i.invariant.1
+    let xs = c.args.self.now.words.items in
+    let ys = c.args.other.now.words.items in
+    let past : length xs ≤ c.loop-k.k = omega (arith, c.loop-k-test.false, c.len-count.ensures) in
+    ended (both_words xs ys) c.loop-k.words.items _ (over_both xs ys c.loop-k.k past) c.loop-k.invariant

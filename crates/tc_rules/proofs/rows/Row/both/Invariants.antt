@@ -1,7 +1,6 @@
 use Rattle.std.proofs.Common.{◌≡◌, ◌++◌, drop}
-use Rattle.tc_rules.specs.Rows.{state, IsMade}
-use Rattle.tc_rules.specs.Steps as v
+use Rattle.tc_rules.specs.Words as w
 use Rattle.tc_rules.proofs.rows.Row.both.Given as goal
 
-abbrev pub invariant-loop-i : goal.invariant-loop-i
-invariant-loop-i l = IsMade l.row × (v.both_states (state l.self) (state l.other) ≡ state l.row ++ v.both_states (drop l.i (state l.self)) (drop l.i (state l.other)))
+abbrev pub invariant-loop-k : goal.invariant-loop-k
+invariant-loop-k l = w.both_words l.self.words.items l.other.words.items ≡ l.words.items ++ w.both_words (drop l.k l.self.words.items) (drop l.k l.other.words.items)

@@ -1,25 +1,26 @@
-use Rattle.std.proofs.Common.{◌<◌, ◌≤◌, ◌∙◌, ap, length, sym, arith}
+use Rattle.std.proofs.Common.{◌≡◌, ◌<◌, ◌≤◌, ◌∙◌, ap, sym, subst, length, List, ℕ, get_or}
 use Rattle.std.proofs.lemmas.List.{drop_all}
-use Rattle.tc_model.specs.PathStates.{is_empty_state}
-use Rattle.tc_rules.specs.Rows.{state}
-use Rattle.tc_rules.proofs.Cuts.{length_state}
-use Rattle.tc_rules.proofs.RowEnds.{item_left, no_item_here}
+use Rattle.tc_rules.specs.Words.{are_zero}
+use Rattle.tc_rules.proofs.RowLoops.{zero_goes, zero_later, zero_never}
 use Rattle.tc_rules.proofs.rows.Row.is_empty.Goals as goal
 
-pub returns-then-has_item : goal.returns-then-has_item
-returns-then-has_item c =
-    let size = length_state c.args.self.now in
-    let inside : c.loop-i.i < length (state c.args.self.now) = omega (arith, size) in
-    item_left (state c.args.self.now) c.loop-i.i c.items_or_none.result.now inside c.items_or_none.ensures c.loop-i.invariant c.if-has_item.ensures
+pub loop-word-preserved : goal.loop-word-preserved
+loop-word-preserved c =
+    let xs = c.args.self.now.words.items in
+    let k = c.loop-word.word-index in
+    let l : k < length xs = subst (λ (w : List ℕ). k < length w) c.deref-word-items.ensures.value c.loop-word-test.true in
+    zero_later _ _ _ (ap (λ (w : List ℕ). get_or w k 0) (sym c.deref-word-items.ensures.value) ∙ c.if-word-ne0.false) (zero_goes xs k l _ c.loop-word.invariant)
 
-pub loop-i-preserved : goal.loop-i-preserved
-loop-i-preserved c =
-    let size = length_state c.args.self.now in
-    let inside : c.loop-i.i < length (state c.args.self.now) = omega (arith, size) in
-    no_item_here (state c.args.self.now) c.loop-i.i c.items_or_none.result.now inside c.items_or_none.ensures c.loop-i.invariant c.if-has_item.ensures
+pub returns-then-word-ne0 : goal.returns-then-word-ne0
+returns-then-word-ne0 c =
+    let xs = c.args.self.now.words.items in
+    let k = c.loop-word.word-index in
+    let l : k < length xs = subst (λ (w : List ℕ). k < length w) c.deref-word-items.ensures.value c.loop-word-test.true in
+    zero_never _ _ _ (λ e. c.if-word-ne0.true (ap (λ (w : List ℕ). get_or w k 0) c.deref-word-items.ensures.value ∙ e)) (zero_goes xs k l _ c.loop-word.invariant)
 
 pub returns : goal.returns
 returns c =
-    let size = length_state c.args.self.now in
-    let past : length (state c.args.self.now) ≤ c.loop-i.i = omega (arith, size) in
-    sym (c.loop-i.invariant ∙ ap is_empty_state (drop_all c.loop-i.i (state c.args.self.now) past))
+    let xs = c.args.self.now.words.items in
+    let k = c.loop-word.word-index in
+    let past : length xs ≤ k = subst (λ (w : List ℕ). length w ≤ k) c.deref-word-items.ensures.value c.loop-word-test.false in
+    sym (c.loop-word.invariant ∙ ap are_zero (drop_all k xs past))

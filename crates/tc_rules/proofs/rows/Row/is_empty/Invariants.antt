@@ -1,7 +1,6 @@
 use Rattle.std.proofs.Common.{◌≡◌, drop}
-use Rattle.tc_model.specs.PathStates as p
-use Rattle.tc_rules.specs.Rows.{state}
+use Rattle.tc_rules.specs.Words as w
 use Rattle.tc_rules.proofs.rows.Row.is_empty.Given as goal
 
-abbrev pub invariant-loop-i : goal.invariant-loop-i
-invariant-loop-i l = p.is_empty_state (state l.self) ≡ p.is_empty_state (drop l.i (state l.self))
+abbrev pub invariant-loop-word : goal.invariant-loop-word
+invariant-loop-word l = w.are_zero l.self.words.items ≡ w.are_zero (drop l.word-index l.self.words.items)

@@ -1,0 +1,6 @@
+use Rattle.std.proofs.Common.{◌≡◌, drop}
+use Rattle.tc_rules.specs.Words as w
+use Rattle.tc_rules.proofs.rows.Row.is_apart.Given as goal
+
+abbrev pub invariant-loop-k : goal.invariant-loop-k
+invariant-loop-k l = w.are_zero (w.both_words l.self.words.items l.other.words.items) ≡ w.are_zero (w.both_words (drop l.k l.self.words.items) (drop l.k l.other.words.items))

@@ -1,8 +1,0 @@
-use Rattle.std.proofs.Common.{◌≡◌, ◌++◌, drop}
-use Rattle.tc_model.specs.PathStates as p
-use Rattle.tc_model.specs.Views as see
-use Rattle.tc_rules.specs.Steps as v
-use Rattle.tc_rules.proofs.rows.first_items.Given as goal
-
-abbrev pub invariant-loop-step : goal.invariant-loop-step
-invariant-loop-step l = p.first_items (see.steps l.steps) ≡ l.items.items ++ v.items_left l.first (see.steps (drop l._step-index l.steps))

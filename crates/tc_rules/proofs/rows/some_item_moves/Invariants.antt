@@ -1,9 +1,0 @@
-use Rattle.std.proofs.Common.{◌≡◌, drop}
-use Rattle.tc_model.specs.Views as see
-use Rattle.tc_rules.specs.Rows.{state}
-use Rattle.tc_rules.specs.Steps as v
-use Rattle.tc_rules.proofs.rows.some_item_moves.Given as goal
-
-abbrev pub invariant-loop-i : goal.invariant-loop-i
-invariant-loop-i l =
-    v.some_item_moves (see.alternatives l.path) (state l.fits) (state l.row) ≡ v.some_item_moves (see.alternatives (drop l.i l.path)) (drop l.i (state l.fits)) (drop l.i (state l.row))
