@@ -26,7 +26,7 @@ entries_kept a b e (k ∷ ks) low =
     λ i. here i ∷ rest i
 
 module _ (x : Triple) (m : Machine) (a b : Held) (e : Extends a b) (w : Work) (n : Node) (ok : AreGrounds x m a w n) where
-  pub grounds_kept : (v : Work) → IsWork x m v → AreGrounds x m b v n
+  pub grounds_kept : (v : Work) → IsWork x m b v → AreGrounds x m b v n
   grounds_kept v is = record {
     machine = ok.machine;
     size = e.size ∙ ok.size;

@@ -36,10 +36,10 @@ pub open_inside : (p : Place) (d : ℕ) (o : Open) → IsOpenAt p (max (min (d +
 open_inside p d o is =
     let room = is.room in
     let few = is.few in
-    record { size = is.size; text = is.text; remembers = is.remembers; room = omega (arith, room, few); few = few }
+    record { size = is.size; text = is.text; remembers = is.remembers; links = is.links; room = omega (arith, room, few); few = few }
 
 -- the branches of a choice
 pub open_chosen : (p : Place) (y : Branches) (o : Open) → IsOpenAt p (depth_in (choose y no_instruction)) o → IsOpenAt p (depth_in_branches y) o
 open_chosen p y o is =
     let room = is.room in
-    record { size = is.size; text = is.text; remembers = is.remembers; room = omega (arith, room); few = is.few }
+    record { size = is.size; text = is.text; remembers = is.remembers; links = is.links; room = omega (arith, room); few = is.few }

@@ -24,8 +24,9 @@ use Rattle.tc_beh.specs.Above.{letter_of, node_of, pairs_at}
 use Rattle.tc_beh.specs.Entries.{AreGrounds, below_node, AreCalledOn, IsUnder, IsMadeOf, IsEntryAt}
 use Rattle.tc_beh.specs.Grounds.{IsGroundIn, called_from}
 use Rattle.tc_rules.specs.KnownRules.{AreKnown}
+use Rattle.tc_beh.specs.Held.{Extends}
 use Rattle.tc_beh.specs.Machines.{IsMachineOf}
-use Rattle.tc_beh.specs.Opening.{Open, IsOpenAt, IsBeside, Remembers}
+use Rattle.tc_beh.specs.Opening.{Open, IsOpenAt, IsBeside, Remembers, AreLinked}
 use Rattle.tc_beh.specs.Places.{IsPlaceIn, kind_of, below_at, below_of, entries_by}
 use Rattle.tc_beh.specs.Putting.{has, Extends as Puts, IsCalled}
 use Rattle.tc_beh.specs.RowsOf.{IsWork}
@@ -36,6 +37,7 @@ use Rattle.tc_beh.specs.declared.entries.Node.{Node}
 use Rattle.tc_rules.specs.declared.known_rules.KnownRules.{KnownRules}
 use Rattle.tc_beh.specs.declared.machine.Machine.{Machine}
 use Rattle.tc_beh.specs.declared.rows.Work.{Work}
+use Rattle.tc_beh.proofs.OpenLaws.{linked_more}
 use Rattle.tc_beh.proofs.Starts.{StartsBelow, stay_first, identity_begun, chosen_starts, stay_starts, starts, below_starts}
 
 -- what a node of a letter is
@@ -132,9 +134,9 @@ module _ (x : Triple) (bears : Bool) (es : List (List (ℕ × ℕ))) (vs : List 
   under_same of_text other e = refl
 
 -- what stands open may be put to, and comes back
-module _ (x : Triple) (m : Machine) (w : Work) (is : IsWork x m w) where
-  pub open_for : IsMachineOf x m → (o : Open) → IsBeside m.output w.sets o → (p : Place) → p.text.now ≡ w.text → p.output.now ≡ m.output → (d : ℕ) → d ≤ m.depth → IsOpenAt p d o
-  open_for machine o same p text outer d low =
+module _ (x : Triple) (m : Machine) (held : Held) (w : Work) (is : IsWork x m held w) where
+  pub open_for : IsMachineOf x m → (o : Open) → IsBeside m.output held w.sets o → (p : Place) → p.text.now ≡ w.text → p.output.now ≡ m.output → p.outputs.now ≡ held → (d : ℕ) → d ≤ m.depth → IsOpenAt p d o
+  open_for machine o same p text outer rows d low =
       let shallow = machine.shallow in
       let room = same.room in
       let free = is.open_room in
@@ -142,12 +144,13 @@ module _ (x : Triple) (m : Machine) (w : Work) (is : IsWork x m w) where
         size = same.size ∙ (is.open_size ∙ sym (ap (λ (t : Matrix). t.size) text ∙ is.text_size));
         text = same.text ∙ (is.open_text ∙ sym text);
         remembers = subst (λ (g : Hedge). Remembers g o.met) (sym outer) (same.remembers is.remembers);
+        links = subst (λ (k : Held). AreLinked k o.met) (sym rows) (same.links is.links);
         room = omega (arith, low, room, free);
         few = omega (arith, shallow, room, free);
       }
 
-  module _ (o : Open) (same : IsBeside m.output w.sets o) where
-    pub work_kept : (rules : KnownRules) → AreKnown x.symbols x.rules rules → IsWork x m (record { text = w.text; set = w.set; named = w.named; sets = o; known = rules })
+  module _ (o : Open) (same : IsBeside m.output held w.sets o) where
+    pub work_kept : (rules : KnownRules) → AreKnown x.symbols x.rules rules → IsWork x m held (record { text = w.text; set = w.set; named = w.named; sets = o; known = rules })
     work_kept rules known = record {
       text = is.text;
       text_size = is.text_size;
@@ -158,6 +161,7 @@ module _ (x : Triple) (m : Machine) (w : Work) (is : IsWork x m w) where
       open_room = same.room ∙ is.open_room;
       open_text = same.text ∙ is.open_text;
       remembers = same.remembers is.remembers;
+      links = same.links is.links;
       known = known;
     }
 
@@ -165,7 +169,7 @@ module _ (x : Triple) (m : Machine) (w : Work) (is : IsWork x m w) where
       pub named_back : (with_items w.named named).items ≡ named
       named_back = with_items_is w.named named (let n = w.named.ok.0 in omega (arith, count, n))
 
-      pub work_filled : IsWork x m (record { text = w.text; set = w.set; named = with_items w.named named; sets = o; known = w.known })
+      pub work_filled : IsWork x m held (record { text = w.text; set = w.set; named = with_items w.named named; sets = o; known = w.known })
       work_filled = record {
         text = is.text;
         text_size = is.text_size;
@@ -176,12 +180,13 @@ module _ (x : Triple) (m : Machine) (w : Work) (is : IsWork x m w) where
         open_room = same.room ∙ is.open_room;
         open_text = same.text ∙ is.open_text;
         remembers = same.remembers is.remembers;
+        links = same.links is.links;
         known = is.known;
       }
 
   -- room for what is worked out was taken by another
-  pub work_set : (set : Matrix) → set.size ≡ w.set.size → IsWork x m (record w { set = set })
-  work_set set size = record {
+  pub work_set : (k : Held) → Extends held k → (set : Matrix) → set.size ≡ w.set.size → IsWork x m k (record w { set = set })
+  work_set k more set size = record {
     text = is.text;
     text_size = is.text_size;
     set = size ∙ is.set;
@@ -191,6 +196,23 @@ module _ (x : Triple) (m : Machine) (w : Work) (is : IsWork x m w) where
     open_room = is.open_room;
     open_text = is.open_text;
     remembers = is.remembers;
+    links = linked_more held k more w.sets.met is.links;
+    known = is.known;
+  }
+
+  -- a set is held on, of one that was put together
+  pub work_held : (k : Held) → Extends held k → (o : Open) → IsBeside m.output k w.sets o → IsWork x m k (record w { sets = o })
+  work_held k more o same = record {
+    text = is.text;
+    text_size = is.text_size;
+    set = is.set;
+    named_count = is.named_count;
+    named = is.named;
+    open_size = same.size ∙ is.open_size;
+    open_room = same.room ∙ is.open_room;
+    open_text = same.text ∙ is.open_text;
+    remembers = same.remembers is.remembers;
+    links = same.links (linked_more held k more w.sets.met is.links);
     known = is.known;
   }
 

@@ -10,30 +10,37 @@ use Rattle.tc_beh.specs.Places.{no_matrix}
 use Rattle.tc_beh.specs.Remembered.{IsProduct}
 use Rattle.tc_beh.proofs.PutLaws.{identity_first, identity_last}
 use Rattle.tc_beh.specs.Held.{Extends, set_at}
-use Rattle.tc_beh.specs.Opening.{Open, IsOpenAt, IsBeside, Met, MeetsMore, Remembers, AreElements, IsElement, IsAround, IsLow, set_or, set_of, no_set, IsOpenSet}
+use Rattle.tc_beh.specs.Links.{IsLink, AreLinks, Tables}
+use Rattle.tc_beh.specs.declared.links.Link.{Link}
+use Rattle.tc_beh.specs.Opening.{Open, IsOpenAt, IsBeside, Met, MeetsMore, Remembers, AreLinked, AreElements, IsElement, IsAround, IsLow, set_or, set_of, no_set, IsOpenSet}
 use Rattle.tc_beh.specs.declared.met_sets.Element.{Element}
 use Rattle.tc_hedge.specs.declared.hedge.Hedge.{Hedge}
 use Rattle.tc_beh.specs.declared.bodies.Place.{Place}
 use Rattle.tc_beh.specs.declared.open_sets.OpenSet.{OpenSet}
 use Rattle.tc_beh.proofs.Holding.{extends_self, extends_at, extends_count}
 
-pub beside_self : (m : Hedge) (a : Open) → IsBeside m a a
-beside_self m a = record { size = refl; under = refl; room = refl; text = refl; remembers = λ r. r }
+pub beside_self : (m : Hedge) (h : Held) (a : Open) → IsBeside m h a a
+beside_self m h a = record { size = refl; under = refl; room = refl; text = refl; remembers = λ r. r; links = λ l. l }
 
-pub beside_same : (m : Hedge) (a b : Open) → b ≡ a → IsBeside m a b
-beside_same m a b e = subst (λ c. IsBeside m a c) (sym e) (beside_self m a)
+pub beside_same : (m : Hedge) (h : Held) (a b : Open) → b ≡ a → IsBeside m h a b
+beside_same m h a b e = subst (λ c. IsBeside m h a c) (sym e) (beside_self m h a)
 
-pub beside_then : (m : Hedge) (a b c : Open) → IsBeside m a b → IsBeside m b c → IsBeside m a c
-beside_then m a b c e f = record {
+pub beside_then : (m : Hedge) (h : Held) (a b c : Open) → IsBeside m h a b → IsBeside m h b c → IsBeside m h a c
+beside_then m h a b c e f = record {
   size = f.size ∙ e.size;
   under = f.under ∙ e.under;
   room = f.room ∙ e.room;
   text = f.text ∙ e.text;
   remembers = λ r. f.remembers (e.remembers r);
+  links = λ l. f.links (e.links l);
 }
 
+-- the same of the output schema and the held sets of a place
+pub beside_there : (p : Place) (m : Hedge) (h : Held) → p.output.now ≡ m → p.outputs.now ≡ h → (a b : Open) → IsBeside p.output.now p.outputs.now a b → IsBeside m h a b
+beside_there p m h outer held a b is = subst (λ (n : Hedge). IsBeside n h a b) outer (subst (λ (k : Held). IsBeside p.output.now k a b) held is)
+
 -- what may be put at first may be put later on
-pub open_on : (p : Place) (d e : ℕ) (a b : Open) → IsOpenAt p e a → IsBeside p.output.now a b → d ≤ e → IsOpenAt p d b
+pub open_on : (p : Place) (d e : ℕ) (a b : Open) → IsOpenAt p e a → IsBeside p.output.now p.outputs.now a b → d ≤ e → IsOpenAt p d b
 open_on p d e a b is same low =
     let room = is.room in
     let few = is.few in
@@ -42,19 +49,21 @@ open_on p d e a b is same low =
       size = same.size ∙ is.size;
       text = same.text ∙ is.text;
       remembers = same.remembers is.remembers;
+      links = same.links is.links;
       room = omega (arith, room, stays, low);
       few = omega (arith, few, stays);
     }
 
 pub open_less : (p : Place) (d e : ℕ) (a : Open) → IsOpenAt p e a → d ≤ e → IsOpenAt p d a
-open_less p d e a is low = open_on p d e a a is (beside_self p.output.now a) low
+open_less p d e a is low = open_on p d e a a is (beside_self p.output.now p.outputs.now a) low
 
--- the same at a place of the same text and output schema
-pub open_elsewhere : (p q : Place) (d : ℕ) → q.text.now ≡ p.text.now → q.output.now ≡ p.output.now → (o : Open) → IsOpenAt p d o → IsOpenAt q d o
-open_elsewhere p q d text outer o is = record {
+-- the same at a place of the same text, output schema and held sets
+pub open_elsewhere : (p q : Place) (d : ℕ) → q.text.now ≡ p.text.now → q.output.now ≡ p.output.now → q.outputs.now ≡ p.outputs.now → (o : Open) → IsOpenAt p d o → IsOpenAt q d o
+open_elsewhere p q d text outer held o is = record {
   size = is.size ∙ ap (λ (m : Matrix). m.size) (sym text);
   text = is.text ∙ sym text;
   remembers = subst (λ (m : Hedge). Remembers m o.met) (sym outer) is.remembers;
+  links = subst (λ (h : Held). AreLinked h o.met) (sym held) is.links;
   room = is.room;
   few = is.few;
 }
@@ -72,7 +81,7 @@ sets_on a b e (o ∷ os) are =
     λ i. here i ∷ rest i
 
 pub more_self : (a : Met) → MeetsMore a a
-more_self a = record { text = refl; held = extends_self a.held; elements = refl }
+more_self a = record { text = refl; held = extends_self a.held; elements = refl; links = refl }
 
 -- what is remembered stays true where more is met
 one_on : (m : Hedge) (a b : Held) → Extends a b → (o : Option Element) → IfSome o (λ e. IsElement m a e.symbol e.inner e.element) → IfSome o (λ e. IsElement m b e.symbol e.inner e.element)
@@ -92,6 +101,32 @@ elements_on m a b e es are = λ k d low. one_on m a b e (get_or es k d) (are k d
 
 pub remembers_on : (m : Hedge) (a b : Met) → MeetsMore a b → Remembers m a → Remembers m b
 remembers_on m a b more are = subst (AreElements m b.held) (sym more.elements) (elements_on m a.held b.held more.held a.elements are)
+
+-- links stay right where more stands in rows, and where more is met
+module _ (h k a b : Held) (rows : Extends h k) (met : Extends a b) where
+  pub link_on : (i j : ℕ) → IsLink h a i j → IsLink k b i j
+  link_on i j is =
+      let up = extends_count h k rows in
+      let more = extends_count a b met in
+      let first = is.held_low in
+      let last = is.low in
+      record { held_low = omega (arith, first, up); low = omega (arith, last, more); same = extends_at a b met j last ∙ (is.same ∙ sym (extends_at h k rows i first)) }
+
+  some_link_on : (o : Option Link) → IfSome o (λ l. IsLink h a l.held l.met) → IfSome o (λ l. IsLink k b l.held l.met)
+  some_link_on None is = is
+  some_link_on (Some l) is = link_on l.held l.met is
+
+  pub links_on : (t : Tables) → AreLinks h a t → AreLinks k b t
+  links_on t are = record {
+    by_held = λ i d low. some_link_on (get_or t.by_held i d) (are.by_held i d low);
+    by_met = λ i d low. some_link_on (get_or t.by_met i d) (are.by_met i d low);
+  }
+
+pub linked_on : (h : Held) (a b : Met) → MeetsMore a b → AreLinked h a → AreLinked h b
+linked_on h a b more are = subst (AreLinks h b.held) (sym more.links) (links_on h h a.held b.held (extends_self h) more.held a.links are)
+
+pub linked_more : (h k : Held) → Extends h k → (a : Met) → AreLinked h a → AreLinked k a
+linked_more h k more a are = links_on h k a.held a.held more (extends_self a.held) a.links are
 
 -- a product with the set of each state with itself
 module _ (h : Held) (are : AreMatrices h) (some : 0 < length h.matrices) (is : IsIdentity (set_at h 0)) where
@@ -120,10 +155,10 @@ number_set h (Some k) m is = is
 abbrev pub opened : Met → List OpenSet → ℕ → Open
 opened a os f = record { out = set_of a.held (get_or os f no_set); under = map (set_of a.held) (drop (f + 1) os); room = f; met = a }
 
-module _ (m : Hedge) (a b : Met) (more : Extends a.held b.held) (text : b.text ≡ a.text) (remembers : Remembers m a → Remembers m b) (first : AreMatrices a.held) (last : AreMatrices b.held)
+module _ (m : Hedge) (h : Held) (a b : Met) (more : Extends a.held b.held) (text : b.text ≡ a.text) (remembers : Remembers m a → Remembers m b) (links : AreLinked h a → AreLinked h b) (first : AreMatrices a.held) (last : AreMatrices b.held)
     (os : List OpenSet) (f : ℕ) (low : f < length os) (are : All (IsOpenSet a.held) os) (o : OpenSet) (is : IsOpenSet b.held o) where
   -- one set is put in place of another
-  pub place_put : IsBeside m (opened a os f) (opened b (set os f o) f)
+  pub place_put : IsBeside m h (opened a os f) (opened b (set os f o) f)
   place_put = record {
     size =
         ap (λ (v : OpenSet). (set_of b.held v).size) (get_or-set_same os f o no_set low)
@@ -132,6 +167,7 @@ module _ (m : Hedge) (a b : Met) (more : Extends a.held b.held) (text : b.text �
     room = refl;
     text = text;
     remembers = remembers;
+    links = links;
   }
 
 -- a set that waits stands at the next place

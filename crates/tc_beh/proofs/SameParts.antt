@@ -8,6 +8,7 @@ use Rattle.tc_auto.specs.declared.auto.Auto.{Auto}
 use Rattle.tc_rules.specs.RulesView.{RulesView}
 use Rattle.tc_rows.specs.Triples.{Triple, outputs}
 use Rattle.tc_rows.specs.PairSets.{HaveSamePairs}
+use Rattle.tc_mat.specs.Held.{Held}
 use Rattle.tc_rules.specs.KnownRules.{AreKnown}
 use Rattle.tc_beh.specs.Machines.{IsMachineOf}
 use Rattle.tc_beh.specs.Putting.{has}
@@ -34,8 +35,8 @@ module _ (m : Machine) (x y : Triple) (ox : IsMachineOf x m) (oy : IsMachineOf y
   same_outputs = ap (λ g. state_count g output) same_output
 
   -- room for the one is room for the other
-  pub same_work : (w : Work) → IsWork x m w → IsWork y m w
-  same_work w is = record {
+  pub same_work : (h : Held) (w : Work) → IsWork x m h w → IsWork y m h w
+  same_work h w is = record {
     text = subst (λ g. HaveSamePairs (has w.text) (text_of g)) same_output is.text;
     text_size = is.text_size ∙ same_outputs;
     set = is.set ∙ same_outputs;
@@ -45,6 +46,7 @@ module _ (m : Machine) (x y : Triple) (ox : IsMachineOf x m) (oy : IsMachineOf y
     open_room = is.open_room;
     open_text = is.open_text;
     remembers = is.remembers;
+    links = is.links;
     known = subst (λ (v : RulesView). AreKnown y.symbols v w.known) same_rules (subst (λ (symbols : List Mention). AreKnown symbols x.rules w.known) same_symbols is.known);
   }
     where
@@ -58,5 +60,5 @@ rows_before x old new (y, are) same now =
     record {
       machine = here;
       size = are.size ∙ sym (same_outputs old.machine.now x y here are.machine);
-      work = same_work old.machine.now y x are.machine here old.work are.work;
+      work = same_work old.machine.now y x are.machine here old.outputs old.work are.work;
     }

@@ -240,12 +240,12 @@ pub beside_then : (a b c : Room) → IsRoomBeside a b → IsRoomBeside b c → I
 beside_then a b c e f = record { flags = f.flags ∙ e.flags; entries = f.entries ∙ e.entries; count = f.count ∙ e.count }
 
 -- rows go on
-pub rows_after : (x : Triple) (r : Rows) → AreRowsOf x r → (new : Held) → Extends r.outputs new → (w : Work) → IsWork x r.machine.now w
+pub rows_after : (x : Triple) (r : Rows) → AreRowsOf x r → (new : Held) → Extends r.outputs new → (w : Work) → IsWork x r.machine.now new w
     → (s : Rows) → s.machine.now ≡ r.machine.now → s.outputs ≡ new → s.work ≡ w → AreRowsOf x s
 rows_after x r rows new more w is s machine outs work = record {
   machine = subst (IsMachineOf x) (sym machine) rows.machine;
   size = ap (λ (h : Held). h.size) outs ∙ (more.size ∙ rows.size);
-  work = subst (IsWork x s.machine.now) (sym work) (subst (λ (m : Machine). IsWork x m w) (sym machine) is);
+  work = subst (IsWork x s.machine.now s.outputs) (sym work) (subst (λ (h : Held). IsWork x s.machine.now h w) (sym outs) (subst (λ (m : Machine). IsWork x m new w) (sym machine) is));
 }
 
 tree_flags : (x : Triple) (ns : List ℕ) → length ns ≡ count_of (tree_layout x) → length (flags_in (length x.input.elements) ns) ≡ length x.input.elements

@@ -36,7 +36,7 @@ pub record IsNode (x : Triple) (held : Held) (n : Node) : Type 0 where
 pub record AreGrounds (x : Triple) (m : Machine) (held : Held) (w : Work) (n : Node) : Type 0 where
   pub machine : IsMachineOf x m
   pub size : held.size ≡ outputs x
-  pub work : IsWork x m w
+  pub work : IsWork x m held w
   pub node : IsNode x held n
   pub leads : AreLeads m.rules n.letter n.leads.now
 

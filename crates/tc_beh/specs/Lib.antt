@@ -25,4 +25,5 @@ pub mod Listing
 pub mod Lines
 pub mod Remembered
 pub mod AlikeSymbols
+pub mod Links
 pub mod Opening

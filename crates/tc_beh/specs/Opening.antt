@@ -10,6 +10,7 @@ use Rattle.tc_model.specs.Names.{ExpandedName}
 use Rattle.tc_model.specs.States.{Side}
 use Rattle.tc_model.specs.Symbols.{Mention, symbol_of}
 use Rattle.tc_beh.specs.Held.{Extends, set_at}
+use Rattle.tc_beh.specs.Links.{Tables, AreLinks}
 use Rattle.tc_beh.specs.Places.{size_at, no_matrix}
 use Rattle.tc_beh.specs.declared.bodies.Place.{Place}
 use Rattle.tc_beh.specs.declared.met_sets.Element.{Element}
@@ -21,11 +22,12 @@ IsAround h a inner m =
     (side : Side) (g : Grammar) (symbols : List Mention) → Stands side g symbols h
     → (name : ExpandedName) → symbol_of symbols name ≡ a → ArePairsAround g side name inner m
 
--- the sets that were met, that of a text among them, and the elements that are remembered
+-- the sets that were met, that of a text among them, the elements that are remembered, and the numbers that sets have in rows
 pub record Met : Type 0 where
   pub text : Matrix
   pub held : Held
   pub elements : List (Option Element)
+  pub links : Tables
 
 -- two sets that were met: the one is that of an element of the symbol around the other
 pub record IsElement (m : Hedge) (h : Held) (symbol inner element : ℕ) : Type 0 where
@@ -40,11 +42,16 @@ AreElements m h es = All (λ o. IfSome o (λ e. IsElement m h e.symbol e.inner e
 abbrev pub Remembers : Hedge → Met → Type 0
 Remembers m o = AreElements m o.held o.elements
 
+-- what is known of the sets of these rows is right
+abbrev pub AreLinked : Held → Met → Type 0
+AreLinked h o = AreLinks h o.held o.links
+
 -- more sets were met
 pub record MeetsMore (old new : Met) : Type 0 where
   pub text : new.text ≡ old.text
   pub held : Extends old.held new.held
   pub elements : new.elements ≡ old.elements
+  pub links : new.links ≡ old.links
 
 -- a number, if there is one, is that of a set
 abbrev pub IsLow : Held → Option ℕ → Type 0
@@ -79,13 +86,15 @@ pub record IsOpenAt (p : Place) (depth : ℕ) (o : Open) : Type 0 where
   pub size : o.out.size ≡ size_at p
   pub text : o.met.text ≡ p.text.now
   pub remembers : Remembers p.output.now o.met
+  pub links : AreLinked p.outputs.now o.met
   pub room : depth ≤ o.room
   pub few : o.room ≤ 8000
 
--- all but the set that is put together stays, and what is remembered of the output schema is right
-pub record IsBeside (m : Hedge) (old new : Open) : Type 0 where
+-- all but the set that is put together stays, and what is remembered of the output schema and of rows is right
+pub record IsBeside (m : Hedge) (h : Held) (old new : Open) : Type 0 where
   pub size : new.out.size ≡ old.out.size
   pub under : new.under ≡ old.under
   pub room : new.room ≡ old.room
   pub text : new.met.text ≡ old.met.text
   pub remembers : Remembers m old.met → Remembers m new.met
+  pub links : AreLinked h old.met → AreLinked h new.met

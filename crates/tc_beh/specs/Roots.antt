@@ -20,7 +20,7 @@ use Rattle.tc_beh.specs.declared.rows.Work.{Work}
 pub record IsRootIn (x : Triple) (m : Machine) (h : Held) (w : Work) (t : Room) : Type 0 where
   pub machine : IsMachineOf x m
   pub size : h.size ≡ outputs x
-  pub work : IsWork x m w
+  pub work : IsWork x m h w
   pub parted : IsRoomOf (tree_layout x) t
   pub numbers : IsRoom (tree_layout x) h.matrices t.numbers.items
 

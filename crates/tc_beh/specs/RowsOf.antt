@@ -1,6 +1,7 @@
 -- What rows over a machine hold, and the rooms that stand for rows over them.
 use Rattle.std.specs.Prelude.{◌≡◌, length, All}
 use Rattle.tc_mat.specs.Matrix.{Matrix}
+use Rattle.tc_mat.specs.Held.{Held}
 use Rattle.tc_rows.specs.Triples.{Triple, sheet, outputs}
 use Rattle.tc_rows.specs.PairSets.{HaveSamePairs}
 use Rattle.tc_rows.specs.Bodies.{text_edges}
@@ -8,7 +9,7 @@ use Rattle.tc_rows.specs.Rows.{HedgeRow, TreeRow}
 use Rattle.tc_rules.specs.KnownRules.{AreKnown}
 use Rattle.tc_beh.specs.Putting.{has}
 use Rattle.tc_beh.specs.Machines.{IsMachineOf}
-use Rattle.tc_beh.specs.Opening.{Remembers}
+use Rattle.tc_beh.specs.Opening.{Remembers, AreLinked}
 use Rattle.tc_beh.specs.Rooms.{hedge_layout, tree_layout, IsRoom, hedge_row, tree_row}
 use Rattle.tc_beh.specs.RoomsOf.{IsRoomOf}
 use Rattle.tc_beh.specs.declared.rows.Rows.{Rows}
@@ -17,8 +18,8 @@ use Rattle.tc_beh.specs.declared.rows.Work.{Work}
 use Rattle.tc_beh.specs.declared.rooms.HRow.{HRow}
 use Rattle.tc_beh.specs.declared.rooms.TRow.{TRow}
 
--- the room is that of a triple and a machine, and the rules that are remembered were found for it
-pub record IsWork (x : Triple) (m : Machine) (w : Work) : Type 0 where
+-- the room is that of a triple and a machine, and what is remembered was found for it and for the sets that stand in rows
+pub record IsWork (x : Triple) (m : Machine) (h : Held) (w : Work) : Type 0 where
   pub text : HaveSamePairs (has w.text) (text_edges x)
   pub text_size : w.text.size ≡ outputs x
   pub set : w.set.size ≡ outputs x
@@ -28,12 +29,13 @@ pub record IsWork (x : Triple) (m : Machine) (w : Work) : Type 0 where
   pub open_room : w.sets.room ≡ m.depth
   pub open_text : w.sets.met.text ≡ w.text
   pub remembers : Remembers m.output w.sets.met
+  pub links : AreLinked h w.sets.met
   pub known : AreKnown x.symbols x.rules w.known
 
 pub record AreRowsOf (x : Triple) (r : Rows) : Type 0 where
   pub machine : IsMachineOf x r.machine.now
   pub size : r.outputs.size ≡ outputs x
-  pub work : IsWork x r.machine.now r.work
+  pub work : IsWork x r.machine.now r.outputs r.work
 
 abbrev pub AreRows : Rows → Type 0
 AreRows r = (x : Triple) × AreRowsOf x r

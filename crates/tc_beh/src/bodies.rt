@@ -26,7 +26,7 @@ use crate::looks::{holds, look};
 use crate::open_sets::OpenSets;
 use tc_alpha::{Alphabet, Sym};
 use tc_hedge::Hedge;
-use tc_mat::{Mat, MatId};
+use tc_mat::Mat;
 use tc_model::{Branch, Instr, NodeTest, Path, Step, Test, is_white_space_only};
 use tc_rules::{Job, Rules};
 
@@ -76,7 +76,7 @@ pub(crate) struct Place<'a, 'b> {
 pub(crate) fn put_text_if(place: &Place<'_, '_>, is_put: bool, sets: &mut OpenSets)
     requires place { IsPlace place.now }
     requires sets { IsOpenAt place.now 0 sets.old }
-    ensures same { IsBeside place.now.output.now sets.old sets.new }
+    ensures same { IsBeside place.now.output.now place.now.outputs.now sets.old sets.new }
     ensures pairs { (x : Triple) → IsPlaceIn x place.now
         → Extends sets.old.out sets.new.out (value_pairs x is_put) }
 {
@@ -91,7 +91,7 @@ pub(crate) fn put_body(place: &Place<'_, '_>, body: &[Instr<'_>], sets: &mut Ope
     requires place { IsPlace place.now }
     requires part { IsPart (told place.now.rules.now).sheet (see.body body.now) }
     requires sets { IsOpenAt place.now (depth_in (see.body body.now)) sets.old }
-    ensures same { IsBeside place.now.output.now sets.old sets.new }
+    ensures same { IsBeside place.now.output.now place.now.outputs.now sets.old sets.new }
     ensures pairs { (x : Triple) → IsPlaceIn x place.now
         → Extends sets.old.out sets.new.out
         (put_pairs x (kind_of place.now.node) (below_of x place.now) (called_by place.now)
@@ -110,7 +110,7 @@ fn put_instruction(place: &Place<'_, '_>, instruction: &Instr<'_>, sets: &mut Op
         (see.instruction instruction.now s.no_instruction) }
     requires sets { IsOpenAt place.now
         (depth_in (see.instruction instruction.now s.no_instruction)) sets.old }
-    ensures same { IsBeside place.now.output.now sets.old sets.new }
+    ensures same { IsBeside place.now.output.now place.now.outputs.now sets.old sets.new }
     ensures pairs { (x : Triple) (rest : s.Body) → IsPlaceIn x place.now → HaveSamePairs
         (product (has sets.new.out) (put_pairs x (kind_of place.now.node) (below_of x place.now) (called_by place.now) rest))
         (product (has sets.old.out) (put_pairs x (kind_of place.now.node) (below_of x place.now) (called_by place.now) (see.instruction instruction.now rest))) }
@@ -146,7 +146,7 @@ fn put_element(place: &Place<'_, '_>, sym: Sym, inner: &[Instr<'_>], sets: &mut 
     requires symbol { sym.0 < symbol_count place.now.alphabet.now }
     requires part { IsPart (told place.now.rules.now).sheet (see.body inner.now) }
     requires sets { IsOpenAt place.now (depth_in (see.body inner.now) + 1) sets.old }
-    ensures same { IsBeside place.now.output.now sets.old sets.new }
+    ensures same { IsBeside place.now.output.now place.now.outputs.now sets.old sets.new }
     ensures pairs { (x : Triple) → IsPlaceIn x place.now
         → Extends sets.old.out sets.new.out
         (around x sym.0
@@ -164,7 +164,7 @@ fn put_copy(place: &Place<'_, '_>, inner: &[Instr<'_>], sets: &mut OpenSets)
     requires place { IsPlace place.now }
     requires part { IsPart (told place.now.rules.now).sheet (see.body inner.now) }
     requires sets { IsOpenAt place.now (depth_in (see.body inner.now) + 1) sets.old }
-    ensures same { IsBeside place.now.output.now sets.old sets.new }
+    ensures same { IsBeside place.now.output.now place.now.outputs.now sets.old sets.new }
     ensures pairs { (x : Triple) → IsPlaceIn x place.now
         → Extends sets.old.out sets.new.out
         (copied_pairs x (kind_of place.now.node)
@@ -187,7 +187,7 @@ fn put_first(place: &Place<'_, '_>, branches: &[Branch<'_>], sets: &mut OpenSets
         (see.branches branches.now (s.otherwise s.no_instruction)) }
     requires sets { IsOpenAt place.now
         (depth_in_branches (see.branches branches.now (s.otherwise s.no_instruction))) sets.old }
-    ensures same { IsBeside place.now.output.now sets.old sets.new }
+    ensures same { IsBeside place.now.output.now place.now.outputs.now sets.old sets.new }
     ensures stays { result ≡ false → sets.new ≡ sets.old }
     ensures pairs { (x : Triple) (rest : s.Branches) → IsPlaceIn x place.now → HaveSamePairs
         (product (has sets.new.out) (chosen result (stay x) (put_branch_pairs x (kind_of place.now.node) (below_of x place.now) (called_by place.now) rest)))
@@ -212,7 +212,7 @@ pub(crate) fn put_selected(place: &Place<'_, '_>, path: &Path<'_>, job: Job, set
               (told place.now.rules.now).sheet.modes job;
         }) }
     requires sets { IsOpenAt place.now 0 sets.old }
-    ensures same { IsBeside place.now.output.now sets.old sets.new }
+    ensures same { IsBeside place.now.output.now place.now.outputs.now sets.old sets.new }
     ensures pairs { (x : Triple) → IsPlaceIn x place.now
         → Extends sets.old.out sets.new.out
         ((below_of x place.now).pairs (mode_of (told place.now.rules.now).sheet.modes job)
@@ -236,7 +236,7 @@ fn put_below(place: &Place<'_, '_>, path: &Path<'_>, job: Job, sets: &mut OpenSe
               (told place.now.rules.now).sheet.modes job;
         }) }
     requires sets { IsOpenAt place.now 0 sets.old }
-    ensures same { IsBeside place.now.output.now sets.old sets.new }
+    ensures same { IsBeside place.now.output.now place.now.outputs.now sets.old sets.new }
     ensures pairs { (x : Triple) → IsPlaceIn x place.now
         → Extends sets.old.out sets.new.out
         ((below_of x place.now).pairs (mode_of (told place.now.rules.now).sheet.modes job)
@@ -261,12 +261,10 @@ pub(crate) fn put_entry(place: &Place<'_, '_>, state: u32, sets: &mut OpenSets)
     requires node { kind_of place.now.node ≡ on_text → ⊥ }
     requires state { state < move_count (told place.now.rules.now) }
     requires sets { IsOpenAt place.now 0 sets.old }
-    ensures same { IsBeside place.now.output.now sets.old sets.new }
+    ensures same { IsBeside place.now.output.now place.now.outputs.now sets.old sets.new }
     ensures pairs { (x : Triple) → IsPlaceIn x place.now
         → Extends sets.old.out sets.new.out (listed (entry x (entries_by place.now.outputs.now.matrices place.now.entries.now) place.now.above state)) }
 {
     let number = entry_place(place.above, place.rules.moves(), state);
-    let output = place.entries[number];
-    let outputs = place.outputs;
-    sets.put_held(output, outputs.get(MatId(output)));
+    sets.put_held(place.outputs, place.entries[number]);
 }

@@ -3,7 +3,8 @@
 ghost use Rattle.std.specs.Prelude.{◌≡◌, ◌<◌, ◌≤◌, ◌+◌, ◌*◌, ◌⊎◌, ℕ, List, length, get_or, IfOk, IfSome, OnOk, OnErr, true, false, All};
 ghost use Rattle.std.specs.Result.{IsErrOf};
 ghost use Rattle.tc_mat.specs.Matrix.{Matrix, IsMatrix, IsIdentity};
-ghost use Rattle.tc_mat.specs.Held.{Held};
+ghost use Rattle.tc_hedge.specs.declared.hedge.Hedge.{Hedge};
+ghost use Rattle.tc_mat.specs.Held.{Held, IsHeld};
 ghost use Rattle.tc_model.specs.Letters.{IsLetter};
 ghost use Rattle.tc_rules.specs.Asked as asked;
 ghost use Rattle.tc_rules.specs.Kept.{told};
@@ -13,6 +14,7 @@ ghost use Rattle.tc_beh.specs.Above.{letter_of, node_of};
 ghost use Rattle.tc_beh.specs.Entries.{IsNode, IsNothing, IsNewNothing, IsNewEntry, AreGrounds, AreSomeGrounds, AreCalledOn, IsUnder, IsMadeOf, IsEntryAt, Comes, ComesPartly};
 ghost use Rattle.tc_beh.specs.Held.{Extends, set_at};
 ghost use Rattle.tc_beh.specs.Leads.{AreLeads};
+ghost use Rattle.tc_beh.specs.Opening.{AreLinked, IsBeside};
 ghost use Rattle.tc_beh.specs.Places.{kind_of, entries_by};
 ghost use Rattle.tc_beh.specs.Rooms.{output_at};
 ghost use Rattle.tc_beh.specs.RoomsOf.{IsRoomBeside};
@@ -25,6 +27,7 @@ use crate::held_sets::HeldSets;
 use crate::leads::{Lead, lead_at};
 use crate::machine::Machine;
 use crate::named::put_named;
+use crate::open_sets::OpenSets;
 use crate::outputs::{RowFault, keep};
 use crate::rooms::Room;
 use crate::rows::Work;
@@ -117,7 +120,7 @@ fn put_named_on(
     requires grounds { AreSomeGrounds machine.now outputs.now work.old node }
     requires above { above < length (told machine.now.rules).ancestors.states }
     ensures work { (x : Triple) → AreGrounds x machine.now outputs.now work.old node.entry
-        → IsWork x machine.now work.new }
+        → IsWork x machine.now outputs.now work.new }
     ensures called { (x : Triple) → AreGrounds x machine.now outputs.now work.old node.entry
         → AreCalledOn x outputs.now node.entry above work.new.named.items }
 {
@@ -143,7 +146,7 @@ fn put_entry_of(
     requires state { spot.state < move_count (told machine.now.rules) }
     requires above { spot.above < length (told machine.now.rules).ancestors.states }
     ensures work { (x : Triple) → AreGrounds x machine.now outputs.now work.old node.entry
-        → IsWork x machine.now work.new }
+        → IsWork x machine.now outputs.now work.new }
     ensures named { work.new.named.items ≡ work.old.named.items }
     ensures matrix { IsMatrix work.new.sets.out }
     ensures entry { (x : Triple) → AreGrounds x machine.now outputs.now work.old node.entry → IsUnder x (letter_of node.entry.letter) spot.ancestor spot.above → AreCalledOn x outputs.now node.entry spot.above work.old.named.items
@@ -250,6 +253,38 @@ fn keep_nothing(
     Ok(number)
 }
 
+/// The number of the set that a body put together, which is held from now on, or else is held already where the sets are fixed.
+fn keep_open(outputs: &mut HeldSets, is_fixed: bool, sets: &mut OpenSets) -> Result<u32, RowFault>
+    requires size { sets.old.out.size ≡ outputs.old.size }
+    requires links { AreLinked outputs.old sets.old.met }
+    ensures same { (m : Hedge) → IsBeside m outputs.new sets.old sets.new }
+    ensures held { Extends outputs.old outputs.new }
+    ensures number { IfOk result (λ k. (k < length outputs.new.matrices)
+        × (set_at outputs.new k ≡ sets.old.out)) }
+    ensures grows { IfOk result (λ k.
+        ((k < length outputs.old.matrices) × (outputs.new ≡ outputs.old)) ⊎
+        ((k ≡ length outputs.old.matrices)
+        × (length outputs.new.matrices ≡ length outputs.old.matrices + 1))) }
+    ensures err { OnErr result ((outputs.new ≡ outputs.old)
+        × ¬ IsHeld outputs.old sets.old.out) }
+    ensures fixed { is_fixed ≡ true → outputs.new ≡ outputs.old }
+    ensures full { IsErrOf result RowFault.TooManyOutputs → (is_fixed ≡ false)
+        × (length outputs.old.matrices ≡ 65536) }
+    ensures fresh { IsErrOf result RowFault.NewOutput → is_fixed ≡ true }
+    ensures memory { IsErrOf result RowFault.NoMemory → is_fixed ≡ false }
+{
+    if let Some(number) = sets.held() {
+        return Ok(number);
+    }
+    match keep(outputs, is_fixed, sets.out()) {
+        Ok(number) => {
+            sets.link(number);
+            Ok(number)
+        }
+        Err(fault) => Err(fault),
+    }
+}
+
 /// The number of an entry of a node.
 fn keep_entry(
     machine: &Machine<'_>,
@@ -267,7 +302,7 @@ fn keep_entry(
     requires known { IsNothing outputs.old nothing.old }
     ensures known { IsNothing outputs.new nothing.new }
     ensures work { (x : Triple) → AreGrounds x machine.now outputs.old work.old node.entry
-        → IsWork x machine.now work.new }
+        → IsWork x machine.now outputs.new work.new }
     ensures named { work.new.named.items ≡ work.old.named.items }
     ensures held { Extends outputs.old outputs.new }
     ensures low { IfOk result (λ k. k < length outputs.new.matrices) }
@@ -292,7 +327,7 @@ fn keep_entry(
         Some(number) => Ok(number),
         None => {
             put_entry_of(machine, outputs, work, node, spot);
-            keep(outputs, is_fixed, work.sets.out())
+            keep_open(outputs, is_fixed, &mut work.sets)
         }
     }
 }
@@ -311,7 +346,7 @@ fn put_row(
     requires ancestor { ancestor < length (told machine.now.rules).ancestors.states }
     requires room { (ancestor + 1) * move_count (told machine.now.rules) ≤ out.old.entries }
     ensures work { (x : Triple) → AreGrounds x machine.now outputs.old work.old node.entry
-        → IsWork x machine.now work.new }
+        → IsWork x machine.now outputs.new work.new }
     ensures beside { IsRoomBeside out.old out.new }
     ensures others { (k : ℕ) → (k < 2 + out.old.flags) ⊎ (2 + out.old.flags + out.old.entries ≤ k)
         → get_or out.new.numbers.items k 0 ≡ get_or out.old.numbers.items k 0 }
@@ -357,7 +392,7 @@ pub(crate) fn put_entries(
     requires room { length (told machine.now.rules).ancestors.states * move_count
         (told machine.now.rules) ≡ out.old.entries }
     ensures work { (x : Triple) → AreGrounds x machine.now outputs.old work.old node.entry
-        → IsWork x machine.now work.new }
+        → IsWork x machine.now outputs.new work.new }
     ensures beside { IsRoomBeside out.old out.new }
     ensures others { (k : ℕ) → (k < 2 + out.old.flags) ⊎ (2 + out.old.flags + out.old.entries ≤ k)
         → get_or out.new.numbers.items k 0 ≡ get_or out.old.numbers.items k 0 }

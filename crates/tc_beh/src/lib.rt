@@ -17,6 +17,7 @@ mod held_sets;
 mod laws;
 mod leads;
 mod lines;
+mod links;
 mod lists;
 mod looks;
 mod looks_above;

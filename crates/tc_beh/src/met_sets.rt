@@ -2,13 +2,15 @@
 ghost use Rattle.std.specs.Prelude.{◌≡◌, ◌<◌, ◌≤◌, ℕ, Option, Some, length, IfOk, IfSome};
 ghost use Rattle.tc_auto.specs.Stands as a;
 ghost use Rattle.tc_mat.specs.Matrix.{IsMatrix, IsIdentity, IsComposition};
-ghost use Rattle.tc_mat.specs.Held.{AreMatrices};
+ghost use Rattle.tc_mat.specs.Held.{Held, AreMatrices};
 ghost use Rattle.tc_hedge.specs.declared.hedge.Hedge.{Hedge};
 ghost use Rattle.tc_beh.specs.Held.{Extends, set_at};
-ghost use Rattle.tc_beh.specs.Opening.{Met, MeetsMore, Remembers, IsAround, IsElement, IsLow, set_or};
+ghost use Rattle.tc_beh.specs.Links.{IsLink};
+ghost use Rattle.tc_beh.specs.Opening.{Met, MeetsMore, Remembers, AreLinked, IsAround, IsElement, IsLow, set_or};
 ghost use Rattle.tc_beh.specs.Remembered.{IsProduct};
 
 use crate::held_sets::HeldSets;
+use crate::links::Links;
 use crate::outputs::keep;
 use crate::places::{PLACES, place_of};
 use std::alloc::Global;
@@ -41,8 +43,8 @@ struct Element {
 pub(crate) struct MetSets {
     sets: HeldSets,
     elements: Vec<Option<Element>>,
-    /// Guesses of the numbers that sets of rows have here.
-    links: Vec<u32>,
+    /// Which of them stand in rows.
+    links: Links,
     text: u32,
     most: u32,
 }
@@ -55,9 +57,9 @@ impl Model for MetSets {
 
     ghost Value = { Met };
 
-    ghost view = { λ s. record { text = set_at s.sets s.text; held = s.sets; elements = s.elements.items } };
+    ghost view = { λ s. record { text = set_at s.sets s.text; held = s.sets; elements = s.elements.items; links = s.links } };
 
-    ghost invariant = { λ s. (length s.elements.items ≡ 4096) × (length s.links.items ≡ 4096) × (s.text < length s.sets.matrices)
+    ghost invariant = { λ s. (length s.elements.items ≡ 4096) × (s.text < length s.sets.matrices)
         × (0 < length s.sets.matrices) × IsIdentity (set_at s.sets 0) };
 }
 
@@ -82,6 +84,7 @@ impl MetSets {
     /// There is no memory for them.
     pub(crate) fn of(alloc: Global, text: &Mat) -> Result<MetSets, NoMemory>
         ensures remembers { IfOk result (λ s. (m : Hedge) → Remembers m s) }
+        ensures links { IfOk result (λ s. (h : Held) → AreLinked h s) }
         ensures text { IfOk result (λ s. s.text ≡ text.now) }
         ensures size { IfOk result (λ s. s.held.size ≡ text.now.size) }
     {
@@ -95,7 +98,7 @@ impl MetSets {
             return Err(NoMemory);
         };
         let elements = vec![in alloc; None; PLACES]?;
-        let links = vec![in alloc; 0; PLACES]?;
+        let links = Links::none(alloc)?;
         Ok(MetSets {
             sets,
             elements,
@@ -163,20 +166,42 @@ impl MetSets {
     }
 
     /// The same of a set that stands in rows, by the number that it has there.
-    pub(crate) fn number_of_held(&mut self, held: u32, set: &Mat) -> Option<u32>
-        requires { set.now.size ≡ self.old.held.size }
-        ensures more { MeetsMore self.old self.new }
+    pub(crate) fn number_of_held(&mut self, outputs: &HeldSets, held: u32) -> Option<u32>
+        requires low { held < length outputs.now.matrices }
+        requires size { outputs.now.size ≡ self.old.held.size }
+        requires links { AreLinked outputs.now self.old }
+        ensures text { self.new.text ≡ self.old.text }
+        ensures held { Extends self.old.held self.new.held }
+        ensures remembers { (m : Hedge) → Remembers m self.old → Remembers m self.new }
+        ensures links { AreLinked outputs.now self.new }
         ensures number { IfSome result (λ k. (k < length self.new.held.matrices)
-            × (set_at self.new.held k ≡ set.now)) }
+            × (set_at self.new.held k ≡ set_at outputs.now held)) }
     {
-        let link = held as usize % PLACES;
-        let guess = self.links[link];
-        if self.sets.is_at(guess, set) {
-            return Some(guess);
+        if let Some(number) = self.links.met_of(held) {
+            return Some(number);
         }
-        let number = self.number_of(set)?;
-        self.links[link] = number;
+        let number = self.number_of(outputs.get(MatId(held)))?;
+        self.link(held, number);
         Some(number)
+    }
+
+    /// The number in rows of a set that was met, if it is known.
+    pub(crate) fn held_of(&self, number: Option<u32>) -> Option<u32>
+        ensures { IfSome result (λ k. (h : Held) → AreLinked h self.now
+            → (i : ℕ) × (number ≡ Some i) × IsLink h self.now.held k i) }
+    {
+        self.links.held_of(number?)
+    }
+
+    /// Keeps the number in rows of a set that was met.
+    pub(crate) fn link(&mut self, held: u32, number: u32)
+        ensures text { self.new.text ≡ self.old.text }
+        ensures held { self.new.held ≡ self.old.held }
+        ensures elements { self.new.elements ≡ self.old.elements }
+        ensures links { (h : Held) → AreLinked h self.old → IsLink h self.old.held held number
+            → AreLinked h self.new }
+    {
+        self.links.keep(held, number);
     }
 
     /// The number of the product of two sets, if both were met and it is known.
@@ -233,6 +258,7 @@ impl MetSets {
     fn remember_element(&mut self, symbol: Sym, inner: Option<u32>, element: Option<u32>)
         ensures held { self.new.held ≡ self.old.held }
         ensures text { self.new.text ≡ self.old.text }
+        ensures links { self.new.links ≡ self.old.links }
         ensures remembers { (m : Hedge) → Remembers m self.old
             → ((i k : ℕ) → inner ≡ Some i → element ≡ Some k
             → IsElement m self.old.held symbol.0 i k) → Remembers m self.new }
@@ -289,6 +315,7 @@ impl MetSets {
         ensures text { self.new.text ≡ self.old.text }
         ensures held { Extends self.old.held self.new.held }
         ensures remembers { Remembers output.now self.new }
+        ensures links { (h : Held) → AreLinked h self.old → AreLinked h self.new }
         ensures led { led.new.size ≡ led.old.size }
         ensures low { IsLow self.new.held result }
         ensures around { IsAround output.now symbol.0 (set_or self.old.held inner words.now)

@@ -1,13 +1,14 @@
 // The sets of pairs that stand open while a body is put: the one that is put together, and those that wait for it to be led by
 // an element around it.
-ghost use Rattle.std.specs.Prelude.{◌≡◌, ◌<◌, ◌≤◌, ◌+◌, ◌∷◌, ℕ, List, Some, length, IfOk, All};
+ghost use Rattle.std.specs.Prelude.{◌≡◌, ◌<◌, ◌≤◌, ◌+◌, ◌∷◌, ℕ, List, Some, length, IfOk, IfSome, All};
 ghost use Rattle.tc_auto.specs.Stands as a;
-ghost use Rattle.tc_mat.specs.Held.{AreMatrices};
+ghost use Rattle.tc_mat.specs.Held.{Held, AreMatrices};
 ghost use Rattle.tc_mat.specs.Matrix.{Matrix, IsMatrix, IsIdentity, IsComposition, HaveSamePairs};
 ghost use Rattle.tc_beh.specs.Held.{set_at};
 ghost use Rattle.tc_hedge.specs.declared.hedge.Hedge.{Hedge};
-ghost use Rattle.tc_beh.specs.Opening.{MeetsMore, Remembers, IsAround, IsLow, IsOpenSet, IsBeside, set_of, set_or};
+ghost use Rattle.tc_beh.specs.Opening.{MeetsMore, Remembers, AreLinked, IsAround, IsLow, IsOpenSet, IsBeside, set_of, set_or};
 
+use crate::held_sets::HeldSets;
 use crate::met_sets::MetSets;
 use std::alloc::Global;
 use std::marker::Model;
@@ -15,7 +16,7 @@ use std::mem;
 use tc_alpha::Sym;
 use tc_base::NoMemory;
 use tc_hedge::Hedge;
-use tc_mat::Mat;
+use tc_mat::{Mat, MatId};
 
 /// A set that stands open: one that was met, by its number, or else its words.
 #[derive(Drop)]
@@ -134,6 +135,7 @@ impl OpenSets {
         ensures room { IfOk result (λ o. o.room ≡ depth) }
         ensures text { IfOk result (λ o. o.met.text ≡ text.now) }
         ensures remembers { IfOk result (λ o. (m : Hedge) → Remembers m o.met) }
+        ensures links { IfOk result (λ o. (h : Held) → AreLinked h o.met) }
     {
         let met = MetSets::of(alloc, text)?;
         let nothing = met.nothing();
@@ -178,7 +180,7 @@ impl OpenSets {
 
     /// Begins anew with the set of each state with itself.
     pub(crate) fn restart(&mut self)
-        ensures same { (m : Hedge) → IsBeside m self.old self.new }
+        ensures same { (m : Hedge) (h : Held) → IsBeside m h self.old self.new }
         ensures out { IsIdentity self.new.out }
     {
         self.places[self.free].number = Some(self.met.nothing());
@@ -199,7 +201,7 @@ impl OpenSets {
 
     /// Puts the pairs of a text.
     pub(crate) fn put_text(&mut self)
-        ensures same { (m : Hedge) → IsBeside m self.old self.new }
+        ensures same { (m : Hedge) (h : Held) → IsBeside m h self.old self.new }
         ensures pairs { IsComposition self.old.out self.old.met.text self.new.out }
     {
         let text = Some(self.met.text());
@@ -210,7 +212,7 @@ impl OpenSets {
     /// Puts a set of pairs.
     pub(crate) fn put(&mut self, set: &Mat)
         requires { set.now.size ≡ self.old.out.size }
-        ensures same { (m : Hedge) → IsBeside m self.old self.new }
+        ensures same { (m : Hedge) (h : Held) → IsBeside m h self.old self.new }
         ensures pairs { IsComposition self.old.out set.now self.new.out }
     {
         let number = self.met.number_of(set);
@@ -219,14 +221,35 @@ impl OpenSets {
     }
 
     /// Puts a set of pairs that stands in rows under a number.
-    pub(crate) fn put_held(&mut self, held: u32, set: &Mat)
-        requires { set.now.size ≡ self.old.out.size }
-        ensures same { (m : Hedge) → IsBeside m self.old self.new }
-        ensures pairs { IsComposition self.old.out set.now self.new.out }
+    pub(crate) fn put_held(&mut self, outputs: &HeldSets, held: u32)
+        requires low { held < length outputs.now.matrices }
+        requires size { outputs.now.size ≡ self.old.out.size }
+        requires links { AreLinked outputs.now self.old.met }
+        ensures same { (m : Hedge) → IsBeside m outputs.now self.old self.new }
+        ensures pairs { IsComposition self.old.out (set_at outputs.now held) self.new.out }
     {
-        let number = self.met.number_of_held(held, set);
+        let number = self.met.number_of_held(outputs, held);
+        let set = outputs.get(MatId(held));
         let out = &mut self.places[self.free];
         put_behind(&mut self.met, out, number, set, &mut self.room);
+    }
+
+    /// The number in rows of the set that is put together, if it is known.
+    pub(crate) fn held(&self) -> Option<u32>
+        ensures { IfSome result (λ k. (h : Held) → AreLinked h self.now.met
+            → (k < length h.matrices) × (set_at h k ≡ self.now.out)) }
+    {
+        self.met.held_of(self.places[self.free].number)
+    }
+
+    /// Keeps the number in rows of the set that is put together.
+    pub(crate) fn link(&mut self, held: u32)
+        ensures { (m : Hedge) (h : Held) → held < length h.matrices
+            → set_at h held ≡ self.old.out → IsBeside m h self.old self.new }
+    {
+        if let Some(number) = self.places[self.free].number {
+            self.met.link(held, number);
+        }
     }
 
     /// Closes the set that was opened last, and puts the pairs of an element around it.
@@ -239,6 +262,7 @@ impl OpenSets {
         ensures room { self.new.room ≡ self.old.room + 1 }
         ensures text { self.new.met.text ≡ self.old.met.text }
         ensures remembers { Remembers output.now self.new.met }
+        ensures links { (h : Held) → AreLinked h self.old.met → AreLinked h self.new.met }
         ensures pairs { (o : Matrix) (us : List Matrix) → self.old.under ≡ o ∷ us
             → (self.new.under ≡ us) × ((led : Matrix) × IsAround output.now symbol.0 self.old.out led × IsComposition o led self.new.out) }
     {

@@ -65,7 +65,7 @@ fn put_on_root(place: &Place<'_, '_>, sets: &mut OpenSets)
     requires place { IsPlace place.now }
     requires root { kind_of place.now.node ≡ on_root }
     requires sets { IsOpenAt place.now (depth_of_sheet (told place.now.rules.now).sheet) sets.old }
-    ensures same { IsBeside place.now.output.now sets.old sets.new }
+    ensures same { IsBeside place.now.output.now place.now.outputs.now sets.old sets.new }
     ensures pairs { (x : Triple) → IsPlaceIn x place.now → AreCalled x place.now
         → Extends sets.old.out sets.new.out (body_pairs x (body_of_root x.symbols (predicates x) (sheet x).rules x.bodies (in_mode 0)) (kind_of place.now.node) (below_of x place.now)) }
 {
@@ -78,7 +78,7 @@ fn put_on_root(place: &Place<'_, '_>, sets: &mut OpenSets)
 fn put_root(machine: &Machine<'_>, outputs: &HeldSets, work: &mut Work, tree: &Room)
     requires { (x : Triple) × IsRootIn x machine.now outputs.now work.old tree.now }
     ensures work { (x : Triple) → IsRootIn x machine.now outputs.now work.old tree.now
-        → IsWork x machine.now work.new }
+        → IsWork x machine.now outputs.now work.new }
     ensures pairs { (x : Triple) → IsRootIn x machine.now outputs.now work.old tree.now
         → HaveSamePairs (has work.new.sets.out)
         (root_pairs x (tree_row x outputs.now.matrices tree.now.numbers.items)) }

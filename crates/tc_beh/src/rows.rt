@@ -59,11 +59,13 @@ fn empty_sets(alloc: Global, count: usize, size: u32) -> Result<Vec<Mat>, NoMemo
 }
 
 impl Work {
+    ghost use Rattle.tc_mat.specs.Held.{Held};
     ghost use Rattle.tc_beh.specs.RowsOf.{IsWork};
 
     fn new(alloc: Global, machine: &Machine<'_>) -> Result<Work, NoMemory>
         requires { IsMachine machine.now }
-        ensures { IfOk result (λ w. (x : Triple) → IsMachineOf x machine.now → IsWork x machine.now w) }
+        ensures { IfOk result (λ w. (x : Triple) (h : Held) → IsMachineOf x machine.now
+            → IsWork x machine.now h w) }
     {
         let size = machine.output.auto().states();
         let mut text = Mat::zero(alloc, size)?;

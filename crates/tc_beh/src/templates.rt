@@ -82,7 +82,7 @@ pub(crate) fn put_template(place: &Place<'_, '_>, template: Template<'_>, sets: 
     requires place { IsPlace place.now }
     requires part { IsPartTemplate (told place.now.rules.now).sheet template }
     requires sets { IsOpenAt place.now (depth_of template) sets.old }
-    ensures same { IsBeside place.now.output.now sets.old sets.new }
+    ensures same { IsBeside place.now.output.now place.now.outputs.now sets.old sets.new }
     ensures pairs { (x : Triple) (p : CallFreeBody) → IsPlaceIn x place.now → AreCalled x place.now → IsTemplate (sheet x).named (built_in_on (kind_of place.now.node)) template.entry p
         → Extends sets.old.out sets.new.out (body_pairs x p (kind_of place.now.node) (below_of x place.now)) }
 {
@@ -98,7 +98,7 @@ fn put_built_in(place: &Place<'_, '_>, mode: u32, sets: &mut OpenSets)
     requires place { IsPlace place.now }
     requires mode { mode < (told place.now.rules.now).sheet.modes }
     requires sets { IsOpenAt place.now 0 sets.old }
-    ensures same { IsBeside place.now.output.now sets.old sets.new }
+    ensures same { IsBeside place.now.output.now place.now.outputs.now sets.old sets.new }
     ensures pairs { (x : Triple) → IsPlaceIn x place.now
         → Extends sets.old.out sets.new.out
         (body_pairs x (built_in_on (kind_of place.now.node) mode) (kind_of place.now.node)

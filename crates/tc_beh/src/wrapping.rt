@@ -41,7 +41,7 @@ fn put_node(
     requires room { (x : Triple) × AreGrounds x machine.now outputs.old work.old node
         × IsRoomOf (tree_layout x) out.old }
     ensures work { (x : Triple) → AreGrounds x machine.now outputs.old work.old node.entry
-        → IsWork x machine.now work.new }
+        → IsWork x machine.now outputs.new work.new }
     ensures beside { IsRoomBeside out.old out.new }
     ensures others { (k : ℕ) → k < 2 + out.old.flags → get_or out.new.numbers.items k 0
         ≡ get_or out.old.numbers.items k 0 }

@@ -29,7 +29,7 @@ put_further-requires-clause-sets c =
     open_on c.args.place.now 0 (depth_of_sheet (told c.args.place.now.rules.now).sheet) c.args.sets.now c.put_hit.new.sets c.requires.sets c.put_hit.ensures.same (omega arith)
 
 pub returns-in-Elem-clause-same : goal.returns-in-Elem-clause-same
-returns-in-Elem-clause-same c = beside_then c.args.place.now.output.now c.args.sets.now c.put_hit.new.sets c.put_further.new.sets c.put_hit.ensures.same c.put_further.ensures.same
+returns-in-Elem-clause-same c = beside_then c.args.place.now.output.now c.args.place.now.outputs.now c.args.sets.now c.put_hit.new.sets c.put_further.new.sets c.put_hit.ensures.same c.put_further.ensures.same
 
 pub returns-in-Text-clause-same : goal.returns-in-Text-clause-same
 returns-in-Text-clause-same c = c.put_hit.ensures.same

@@ -54,7 +54,7 @@ returns-in-Some-clause-pairs c = λ x g at is lx.
     (pairs_some x p is at.mode c.in-Some.next g.path (step x g.path g.state l) stepped) (c.put_entry.ensures.pairs x is)
 
 pub returns-in-None-clause-same : goal.returns-in-None-clause-same
-returns-in-None-clause-same c = beside_self c.args.place.now.output.now c.args.sets.now
+returns-in-None-clause-same c = beside_self c.args.place.now.output.now c.args.place.now.outputs.now c.args.sets.now
 
 pub returns-in-Some-clause-same : goal.returns-in-Some-clause-same
 returns-in-Some-clause-same c = c.put_entry.ensures.same

@@ -38,7 +38,7 @@ returns-clause-pairs c = λ x g q is called lx at meant.
     (c.put_template.ensures.pairs x body is called (meant_on (sheet x).named l.kind (kind_of p.node) c.args.template body c.requires.node meant))
 
 pub returns-then-not-sel_hits-clause-same : goal.returns-then-not-sel_hits-clause-same
-returns-then-not-sel_hits-clause-same c = beside_self c.args.place.now.output.now c.args.sets.now
+returns-then-not-sel_hits-clause-same c = beside_self c.args.place.now.output.now c.args.place.now.outputs.now c.args.sets.now
 
 pub put_template-requires-clause-sets : goal.put_template-requires-clause-sets
 put_template-requires-clause-sets c = open_less c.args.place.now (depth_of c.args.template) (depth_of_sheet (told c.args.place.now.rules.now).sheet) c.args.sets.now c.requires.sets c.requires.depth

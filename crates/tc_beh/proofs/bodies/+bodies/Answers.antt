@@ -17,7 +17,7 @@ use Rattle.tc_rows.specs.Rows.{bears_value}
 use Rattle.tc_rows.specs.Bodies.{around, copied_pairs, stay, text_edges, text_pairs, value_pairs, self_bears}
 use Rattle.tc_rows.proofs.PairLaws.{same_on, same_self}
 use Rattle.tc_beh.specs.Heights.{depth_in, depth_in_branches}
-use Rattle.tc_beh.specs.Opening.{Open, IsOpenAt, IsBeside, Met, Remembers}
+use Rattle.tc_beh.specs.Opening.{Open, IsOpenAt, IsBeside, Met, Remembers, AreLinked}
 use Rattle.tc_beh.specs.Putting.{has, Extends}
 use Rattle.tc_rules.specs.RulesView.{RulesView}
 use Rattle.tc_beh.specs.Places.{kind_of, below_of, called_by, no_matrix}
@@ -39,7 +39,7 @@ put_body-loop-instruction-preserved t c =
     let so_far = c.loop-instruction.invariant in
     let deep = so_far.depth in
     record {
-      same = beside_then c.args.place.now.output.now c.args.sets.now c.loop-instruction.sets c.put_instruction.new.sets so_far.same c.put_instruction.ensures.same;
+      same = beside_then c.args.place.now.output.now c.args.place.now.outputs.now c.args.sets.now c.loop-instruction.sets c.put_instruction.new.sets so_far.same c.put_instruction.ensures.same;
       part = (part_first (told p.rules.now).sheet i rest (subst (IsPart (told p.rules.now).sheet) (left_instruction is k i c.loop-instruction-test.true c.instruction-item.is) so_far.part)).1;
       depth = omega (arith, next.1, deep);
       pairs = λ x ok.
@@ -175,7 +175,7 @@ put_first-put_body-requires t c =
         c.requires.place,
         (
           part.1,
-          open_on p (depth_in (see.body b.body.now)) (depth_in_branches (see.branches bs last)) c.args.sets.now c.loop-branch.sets c.requires.sets (beside_same c.args.place.now.output.now c.args.sets.now c.loop-branch.sets inv.sets)
+          open_on p (depth_in (see.body b.body.now)) (depth_in_branches (see.branches bs last)) c.args.sets.now c.loop-branch.sets c.requires.sets (beside_same c.args.place.now.output.now c.args.place.now.outputs.now c.args.sets.now c.loop-branch.sets inv.sets)
               (omega (arith, deep, all)),
         ),
       ),
@@ -327,7 +327,7 @@ put_first-holds-requires-clause-test t c =
 
 pub put_body-loop-instruction-init : goal.put_body-loop-instruction-init
 put_body-loop-instruction-init t c = record {
-  same = beside_self c.args.place.now.output.now c.args.sets.now;
+  same = beside_self c.args.place.now.output.now c.args.place.now.outputs.now c.args.sets.now;
   part = c.requires.part;
   depth = omega arith;
   pairs = λ x ok. same_self (product (has c.args.sets.now.out) (P x c.args.place.now (see.body c.args.body.now)));
@@ -392,6 +392,7 @@ put_element-put_body-requires t c =
             size = c.begin.ensures.size ∙ at.size;
             text = ap (λ (m : Met). m.text) c.begin.ensures.met ∙ at.text;
             remembers = subst (λ (m : Met). Remembers c.args.place.now.output.now m) (sym c.begin.ensures.met) at.remembers;
+            links = subst (λ (m : Met). AreLinked c.args.place.now.outputs.now m) (sym c.begin.ensures.met) at.links;
             room = omega (arith, room, begun);
             few = omega (arith, few, begun);
           },
@@ -427,6 +428,7 @@ put_element-returns-clause-same t c =
       room = omega (arith, begun, inside, ended);
       text = last.text ∙ (put.text ∙ ap (λ (m : Met). m.text) first.met);
       remembers = λ r. last.remembers;
+      links = λ l. last.links c.args.place.now.outputs.now (put.links (subst (λ (m : Met). AreLinked c.args.place.now.outputs.now m) (sym first.met) l));
     }
 
 pub put_element-returns-clause-pairs : goal.put_element-returns-clause-pairs
@@ -477,7 +479,7 @@ pub put_instruction-returns-in-Apply-clause-same : goal.put_instruction-returns-
 put_instruction-returns-in-Apply-clause-same t c = c.put_selected.ensures.same
 
 pub put_instruction-returns-in-Call-clause-same : goal.put_instruction-returns-in-Call-clause-same
-put_instruction-returns-in-Call-clause-same t c = c.put.ensures.same c.args.place.now.output.now
+put_instruction-returns-in-Call-clause-same t c = c.put.ensures.same c.args.place.now.output.now c.args.place.now.outputs.now
 
 pub put_instruction-returns-in-ValueOf-clause-same : goal.put_instruction-returns-in-ValueOf-clause-same
 put_instruction-returns-in-ValueOf-clause-same t c = c.put_text_if-in-ValueOf.ensures.same
@@ -492,7 +494,7 @@ pub put_instruction-returns-then-put_first-clause-same : goal.put_instruction-re
 put_instruction-returns-then-put_first-clause-same t c = c.put_first.ensures.same
 
 pub put_instruction-returns-else-put_first-clause-same : goal.put_instruction-returns-else-put_first-clause-same
-put_instruction-returns-else-put_first-clause-same t c = beside_then c.args.place.now.output.now c.args.sets.now c.put_first.new.sets c.put_body.new.sets c.put_first.ensures.same c.put_body.ensures.same
+put_instruction-returns-else-put_first-clause-same t c = beside_then c.args.place.now.output.now c.args.place.now.outputs.now c.args.sets.now c.put_first.new.sets c.put_body.new.sets c.put_first.ensures.same c.put_body.ensures.same
 
 pub put_copy-returns-in-Root-clause-same : goal.put_copy-returns-in-Root-clause-same
 put_copy-returns-in-Root-clause-same t c = c.put_body.ensures.same
@@ -501,13 +503,13 @@ pub put_copy-returns-in-Elem-clause-same : goal.put_copy-returns-in-Elem-clause-
 put_copy-returns-in-Elem-clause-same t c = c.put_element.ensures.same
 
 pub put_copy-returns-in-Text-clause-same : goal.put_copy-returns-in-Text-clause-same
-put_copy-returns-in-Text-clause-same t c = c.put_text.ensures.same c.args.place.now.output.now
+put_copy-returns-in-Text-clause-same t c = c.put_text.ensures.same c.args.place.now.output.now c.args.place.now.outputs.now
 
 pub put_first-returns-then-holds-clause-same : goal.put_first-returns-then-holds-clause-same
-put_first-returns-then-holds-clause-same t c = subst (λ (o : Open). IsBeside c.args.place.now.output.now o c.put_body.new.sets) c.loop-branch.invariant.sets c.put_body.ensures.same
+put_first-returns-then-holds-clause-same t c = subst (λ (o : Open). IsBeside c.args.place.now.output.now c.args.place.now.outputs.now o c.put_body.new.sets) c.loop-branch.invariant.sets c.put_body.ensures.same
 
 pub put_first-returns-clause-same : goal.put_first-returns-clause-same
-put_first-returns-clause-same t c = beside_same c.args.place.now.output.now c.args.sets.now c.loop-branch.sets c.loop-branch.invariant.sets
+put_first-returns-clause-same t c = beside_same c.args.place.now.output.now c.args.place.now.outputs.now c.args.sets.now c.loop-branch.sets c.loop-branch.invariant.sets
 
 pub put_instruction-put_text_if-requires-clause-sets : goal.put_instruction-put_text_if-requires-clause-sets
 put_instruction-put_text_if-requires-clause-sets t c = open_less c.args.place.now 0 (depth_in (see.instruction c.args.instruction.now s.no_instruction)) c.args.sets.now c.requires.sets (omega arith)

@@ -13,7 +13,7 @@ use Rattle.tc_beh.proofs.bodies.+bodies.Given as goal
 
 abbrev pub invariant-put_body-loop-instruction : goal.invariant-put_body-loop-instruction
 invariant-put_body-loop-instruction l = record {
-  same : IsBeside l.place.output.now l.fn.sets l.sets;
+  same : IsBeside l.place.output.now l.place.outputs.now l.fn.sets l.sets;
   part : IsPart (told l.place.rules.now).sheet (see.body (drop l.instruction-index l.body));
   depth : depth_in (see.body (drop l.instruction-index l.body)) ≤ depth_in (see.body l.body);
   pairs : (x : Triple) → IsPlaceIn x l.place → HaveSamePairs

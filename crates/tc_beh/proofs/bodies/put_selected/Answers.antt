@@ -18,4 +18,4 @@ returns-in-Text-clause-pairs c = λ x is.
     put_same out out (stay x) ((below_of x p).pairs mode (see.path c.args.path.now)) (text_below x p is mode (see.path c.args.path.now) (ap kind_of c.in-Text.is)) (put_nothing out (outputs x) (c.requires.sets.size ∙ is.size))
 
 pub returns-in-Text-clause-same : goal.returns-in-Text-clause-same
-returns-in-Text-clause-same c = beside_self c.args.place.now.output.now c.args.sets.now
+returns-in-Text-clause-same c = beside_self c.args.place.now.output.now c.args.place.now.outputs.now c.args.sets.now

@@ -20,7 +20,7 @@ returns-then-is_put-clause-pairs c = λ x is.
     (put_same old new (has text) (value_pairs x true) is.text (subst (λ (m : Matrix). IsComposition old m new) c.requires.sets.text c.put_text.ensures.pairs))
 
 pub returns-else-is_put-clause-same : goal.returns-else-is_put-clause-same
-returns-else-is_put-clause-same c = beside_self c.args.place.now.output.now c.args.sets.now
+returns-else-is_put-clause-same c = beside_self c.args.place.now.output.now c.args.place.now.outputs.now c.args.sets.now
 
 pub returns-then-is_put-clause-same : goal.returns-then-is_put-clause-same
-returns-then-is_put-clause-same c = c.put_text.ensures.same c.args.place.now.output.now
+returns-then-is_put-clause-same c = c.put_text.ensures.same c.args.place.now.output.now c.args.place.now.outputs.now

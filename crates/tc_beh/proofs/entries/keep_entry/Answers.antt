@@ -1,11 +1,10 @@
-use Rattle.std.proofs.Common.{◌<◌, ◌+◌, ◌*◌, length, inl, refl, sym, ap, ◌∙◌, subst}
-use Rattle.tc_mat.specs.Matrix.{Matrix, IsMatrix}
+use Rattle.std.proofs.Common.{◌<◌, ◌+◌, ◌*◌, length, inl, refl, sym, ◌∙◌, subst}
 use Rattle.tc_rows.specs.Triples.{moves}
 use Rattle.tc_beh.specs.Entries.{IsEntryAt}
 use Rattle.tc_beh.specs.Held.{set_at}
 use Rattle.tc_beh.specs.Places.{entries_by}
-use Rattle.tc_beh.proofs.Holding.{extends_kept, extends_self, set_kept, grows_kept}
-use Rattle.tc_beh.proofs.Nodes.{work_set}
+use Rattle.tc_beh.proofs.Holding.{extends_self}
+use Rattle.tc_beh.proofs.Nodes.{work_held, work_set}
 use Rattle.tc_beh.proofs.Nowhere.{nothing_kept}
 use Rattle.tc_beh.proofs.Passing.{if_ok_map}
 use Rattle.tc_beh.proofs.Together.{on_err_map}
@@ -28,40 +27,41 @@ returns-then-puts_nothing-clause-err c = on_err_map c.keep_nothing.result _ _ (�
       (m, c.puts_nothing.ensures c.if-puts_nothing.true x (entries_by c.args.outputs.now.matrices c.args.node.entries.now) m ok.machine.parts.are_rules ok.node.letter is (size ∙ ok.size), size, matrix, isnt),
 )) c.keep_nothing.ensures.err
 
-pub keep-requires : goal.keep-requires
-keep-requires c = let (x, ok) = c.requires.grounds in ap (λ (m : Matrix). m.size) c.out.ensures.out ∙ ((c.put_entry_of.ensures.work x ok).open_size ∙ sym ok.size)
+pub keep_open-requires-clause-size : goal.keep_open-requires-clause-size
+keep_open-requires-clause-size c = let (x, ok) = c.requires.grounds in (c.put_entry_of.ensures.work x ok).open_size ∙ sym ok.size
+
+pub keep_open-requires-clause-links : goal.keep_open-requires-clause-links
+keep_open-requires-clause-links c = let (x, ok) = c.requires.grounds in (c.put_entry_of.ensures.work x ok).links
 
 pub returns-in-None-clause-known : goal.returns-in-None-clause-known
-returns-in-None-clause-known c =
-    nothing_kept c.args.outputs.now c.keep.new.outputs (extends_kept c.args.outputs.now c.keep.new.outputs c.out.result.now c.keep.result c.keep.ensures.grows c.keep.ensures.err) c.args.nothing.now c.requires.known
+returns-in-None-clause-known c = nothing_kept c.args.outputs.now c.keep_open.new.outputs c.keep_open.ensures.held c.args.nothing.now c.requires.known
 
 pub returns-in-None-clause-held : goal.returns-in-None-clause-held
-returns-in-None-clause-held c = extends_kept c.args.outputs.now c.keep.new.outputs c.out.result.now c.keep.result c.keep.ensures.grows c.keep.ensures.err
+returns-in-None-clause-held c = c.keep_open.ensures.held
 
 pub returns-in-None-clause-low : goal.returns-in-None-clause-low
-returns-in-None-clause-low c =
-    if_ok_map c.keep.result _ (λ k. k < length c.keep.new.outputs.matrices) (λ k h. h.0) (set_kept c.args.outputs.now c.keep.new.outputs c.out.result.now c.keep.result c.keep.ensures.number)
+returns-in-None-clause-low c = if_ok_map c.keep_open.result _ (λ k. k < length c.keep_open.new.outputs.matrices) (λ k h. h.0) c.keep_open.ensures.number
 
 pub returns-in-None-clause-grows : goal.returns-in-None-clause-grows
-returns-in-None-clause-grows c = grows_kept c.args.outputs.now c.keep.new.outputs c.out.result.now c.keep.result c.keep.ensures.number c.keep.ensures.grows
+returns-in-None-clause-grows c = c.keep_open.ensures.grows
 
 pub returns-in-None-clause-entry : goal.returns-in-None-clause-entry
 returns-in-None-clause-entry c =
-    if_ok_map c.keep.result _ _ (λ k h x ok under called.
-    subst (IsEntryAt x (entries_by c.args.outputs.now.matrices c.args.node.entries.now) c.args.node (c.args.spot.ancestor * moves x + c.args.spot.state)) (sym (h.1 ∙ c.out.ensures.out)) (c.put_entry_of.ensures.entry x ok under called))
-    (set_kept c.args.outputs.now c.keep.new.outputs c.out.result.now c.keep.result c.keep.ensures.number)
+    if_ok_map c.keep_open.result _ _ (λ k h x ok under called.
+    subst (IsEntryAt x (entries_by c.args.outputs.now.matrices c.args.node.entries.now) c.args.node (c.args.spot.ancestor * moves x + c.args.spot.state)) (sym h.1) (c.put_entry_of.ensures.entry x ok under called))
+    c.keep_open.ensures.number
 
 pub returns-in-None-clause-err : goal.returns-in-None-clause-err
-returns-in-None-clause-err c = on_err_map c.keep.result _ _ (λ err. (
+returns-in-None-clause-err c = on_err_map c.keep_open.result _ _ (λ err. (
   err.0,
   λ x ok under called. (
-    c.out.result.now,
-    subst (IsEntryAt x (entries_by c.args.outputs.now.matrices c.args.node.entries.now) c.args.node (c.args.spot.ancestor * moves x + c.args.spot.state)) (sym c.out.ensures.out) (c.put_entry_of.ensures.entry x ok under called),
-    ap (λ (m : Matrix). m.size) c.out.ensures.out ∙ ((c.put_entry_of.ensures.work x ok).open_size ∙ sym ok.size),
-    subst IsMatrix (sym c.out.ensures.out) c.out.ensures.matrix,
+    c.put_entry_of.new.work.sets.out,
+    c.put_entry_of.ensures.entry x ok under called,
+    (c.put_entry_of.ensures.work x ok).open_size ∙ sym ok.size,
+    c.put_entry_of.ensures.matrix,
     err.1,
   ),
-)) c.keep.ensures.err
+)) c.keep_open.ensures.err
 
 pub puts_nothing-requires-clause-node : goal.puts_nothing-requires-clause-node
 puts_nothing-requires-clause-node c = let (x, ok) = c.requires.grounds in (x, ok.machine.parts.are_rules, ok.node.letter)
@@ -82,7 +82,8 @@ pub returns-then-puts_nothing-clause-known : goal.returns-then-puts_nothing-clau
 returns-then-puts_nothing-clause-known c = c.keep_nothing.ensures.known
 
 pub returns-then-puts_nothing-clause-work : goal.returns-then-puts_nothing-clause-work
-returns-then-puts_nothing-clause-work c = λ x ok. work_set x c.args.machine.now c.args.work.now ok.work c.keep_nothing.new.set c.keep_nothing.ensures.set
+returns-then-puts_nothing-clause-work c = λ x ok.
+    work_set x c.args.machine.now c.args.outputs.now c.args.work.now ok.work c.keep_nothing.new.outputs c.keep_nothing.ensures.held c.keep_nothing.new.set c.keep_nothing.ensures.set
 
 pub returns-then-puts_nothing-clause-named : goal.returns-then-puts_nothing-clause-named
 returns-then-puts_nothing-clause-named c = refl
@@ -109,16 +110,16 @@ pub returns-then-puts_nothing-clause-memory : goal.returns-then-puts_nothing-cla
 returns-then-puts_nothing-clause-memory c = c.keep_nothing.ensures.memory
 
 pub returns-in-None-clause-fixed : goal.returns-in-None-clause-fixed
-returns-in-None-clause-fixed c = c.keep.ensures.fixed
+returns-in-None-clause-fixed c = c.keep_open.ensures.fixed
 
 pub returns-in-None-clause-full : goal.returns-in-None-clause-full
-returns-in-None-clause-full c = c.keep.ensures.full
+returns-in-None-clause-full c = c.keep_open.ensures.full
 
 pub returns-in-None-clause-fresh : goal.returns-in-None-clause-fresh
-returns-in-None-clause-fresh c = c.keep.ensures.fresh
+returns-in-None-clause-fresh c = c.keep_open.ensures.fresh
 
 pub returns-in-None-clause-memory : goal.returns-in-None-clause-memory
-returns-in-None-clause-memory c = c.keep.ensures.memory
+returns-in-None-clause-memory c = c.keep_open.ensures.memory
 
 pub passed_on-requires-clause-node : goal.passed_on-requires-clause-node
 passed_on-requires-clause-node c = let (x, ok) = c.requires.grounds in (x, ok.machine.parts.are_rules, ok.node)
@@ -169,7 +170,9 @@ pub returns-in-Some-clause-fixed : goal.returns-in-Some-clause-fixed
 returns-in-Some-clause-fixed c = λ e. refl
 
 pub returns-in-None-clause-work : goal.returns-in-None-clause-work
-returns-in-None-clause-work c = c.put_entry_of.ensures.work
+returns-in-None-clause-work c = λ x ok.
+    let put = c.put_entry_of.ensures.work x ok in
+    work_held x c.args.machine.now c.args.outputs.now c.put_entry_of.new.work put c.keep_open.new.outputs c.keep_open.ensures.held c.keep_open.new.sets (c.keep_open.ensures.same c.args.machine.now.output)
 
 pub returns-in-None-clause-named : goal.returns-in-None-clause-named
 returns-in-None-clause-named c = c.put_entry_of.ensures.named

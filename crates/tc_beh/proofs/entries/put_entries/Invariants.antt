@@ -10,7 +10,7 @@ use Rattle.tc_beh.proofs.entries.put_entries.Given as goal
 
 abbrev pub invariant-loop-ancestor : goal.invariant-loop-ancestor
 invariant-loop-ancestor l = record {
-  work : (x : Triple) → AreGrounds x l.machine l.fn.outputs l.fn.work l.node → IsWork x l.machine l.work;
+  work : (x : Triple) → AreGrounds x l.machine l.fn.outputs l.fn.work l.node → IsWork x l.machine l.outputs l.work;
   beside : IsRoomBeside l.fn.out l.out;
   others : (k : ℕ) → (k < 2 + l.fn.out.flags) ⊎ (2 + l.fn.out.flags + l.fn.out.entries ≤ k) → get_or l.out.numbers.items k 0 ≡ get_or l.fn.out.numbers.items k 0;
   held : Extends l.fn.outputs l.outputs;

@@ -3,12 +3,10 @@ use Rattle.tc_mat.specs.Matrix.{Matrix}
 use Rattle.tc_rules.specs.Kept.{told}
 use Rattle.tc_rules.specs.RulesView.{RulesView, move_count}
 use Rattle.tc_rules.specs.declared.rules.Rules.{Rules}
-use Rattle.tc_hedge.specs.declared.hedge.Hedge.{Hedge}
 use Rattle.tc_beh.specs.Entries.{IsMadeOf}
-use Rattle.tc_beh.specs.Opening.{IsBeside}
 use Rattle.tc_beh.specs.Templates.{IsPartTemplate, depth_of, depth_of_sheet}
 use Rattle.tc_beh.proofs.Nodes.{is_ground, is_place, are_called, entry_made, open_for, work_kept}
-use Rattle.tc_beh.proofs.OpenLaws.{beside_then}
+use Rattle.tc_beh.proofs.OpenLaws.{beside_then, beside_there}
 use Rattle.tc_beh.proofs.entries.put_entry_of.Goals as goal
 
 pub template_at-template-requires-clause-letter : goal.template_at-template-requires-clause-letter
@@ -41,15 +39,17 @@ put_entry_above-requires-clause-sets c =
     let made = c.place_of-place.ensures in
     let p = c.place_of-place.result in
     let deep : depth_of_sheet (told p.rules.now).sheet ≡ m.depth = ap (λ (r : Rules). depth_of_sheet (told r).sheet) made.rules ∙ (ap (λ (v : RulesView). depth_of_sheet v.sheet) ok.machine.parts.are_rules.told ∙ sym ok.machine.depth) in
-    open_for x m c.args.work.now ok.work ok.machine c.restart.new.self (c.restart.ensures.same m.output) p made.text made.output (depth_of_sheet (told p.rules.now).sheet) (omega (arith, deep))
+    open_for x m c.args.outputs.now c.args.work.now ok.work ok.machine c.restart.new.self (c.restart.ensures.same m.output c.args.outputs.now) p made.text made.output made.outputs (depth_of_sheet (told p.rules.now).sheet) (omega (arith, deep))
 
 pub returns-clause-work : goal.returns-clause-work
 returns-clause-work c = λ x ok.
     let w = c.args.work.now in
     let outer = c.args.machine.now.output in
-    let put = subst (λ (g : Hedge). IsBeside g c.restart.new.self c.put_entry_above.new.sets) c.place_of-place.ensures.output c.put_entry_above.ensures.same in
-    let same = beside_then outer w.sets c.restart.new.self c.put_entry_above.new.sets (c.restart.ensures.same outer) put in
-    work_kept x c.args.machine.now w ok.work c.put_entry_above.new.sets same c.template_at-template.new.known (c.template_at-template.ensures.known x ok.machine.parts.are_rules ok.node.letter ok.work.known)
+    let held = c.args.outputs.now in
+    let made = c.place_of-place.ensures in
+    let put = beside_there c.place_of-place.result outer held made.output made.outputs c.restart.new.self c.put_entry_above.new.sets c.put_entry_above.ensures.same in
+    let same = beside_then outer held w.sets c.restart.new.self c.put_entry_above.new.sets (c.restart.ensures.same outer held) put in
+    work_kept x c.args.machine.now held w ok.work c.put_entry_above.new.sets same c.template_at-template.new.known (c.template_at-template.ensures.known x ok.machine.parts.are_rules ok.node.letter ok.work.known)
 
 pub returns-clause-entry : goal.returns-clause-entry
 returns-clause-entry c = λ x ok under called.
@@ -63,6 +63,6 @@ returns-clause-entry c = λ x ok under called.
     let place = is_place x m held w n ok w.text w.named.items c.args.spot.above p made (λ i. w.text) under.low ok.work.named_count ok.work.named in
     let all_called = are_called x m held w n ok w.text w.named.items c.args.spot.above p made called in
     let within = subst (λ (t : RulesView). c.args.spot.state < move_count t) ok.machine.parts.are_rules.told c.requires.state in
-    entry_made x m held w n ok w.text w.named.items c.args.spot.above p made ground c.restart.new.self.out c.put_entry_above.new.sets.out c.args.spot.ancestor c.args.spot.state under c.restart.ensures.out ((c.restart.ensures.same m.output).size ∙ ok.work.open_size) within
+    entry_made x m held w n ok w.text w.named.items c.args.spot.above p made ground c.restart.new.self.out c.put_entry_above.new.sets.out c.args.spot.ancestor c.args.spot.state under c.restart.ensures.out ((c.restart.ensures.same m.output c.args.outputs.now).size ∙ ok.work.open_size) within
     (λ g at. c.put_entry_above.ensures.pairs x g c.args.spot.ancestor at place all_called ok.node.letter
     (c.template_at-template.ensures.meant x g ok.machine.parts.are_rules ok.node.letter ok.work.known at))

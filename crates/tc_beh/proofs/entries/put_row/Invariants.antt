@@ -11,7 +11,7 @@ use Rattle.tc_beh.proofs.entries.put_row.Given as goal
 
 abbrev pub invariant-loop-state : goal.invariant-loop-state
 invariant-loop-state l = record {
-  work : (x : Triple) → AreGrounds x l.machine l.fn.outputs l.fn.work l.node → IsWork x l.machine l.work;
+  work : (x : Triple) → AreGrounds x l.machine l.fn.outputs l.fn.work l.node → IsWork x l.machine l.outputs l.work;
   called : (x : Triple) → AreGrounds x l.machine l.fn.outputs l.fn.work l.node → AreCalledOn x l.fn.outputs l.node l.above l.work.named.items;
   known : IsNothing l.outputs l.nothing;
   beside : IsRoomBeside l.fn.out l.out;

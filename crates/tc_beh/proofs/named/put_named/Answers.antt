@@ -27,7 +27,7 @@ loop-number-preserved c =
     let at : slice_get order i ≡ Some n = slice_get-get_or order i 0 c.loop-number-test.true in
     record {
       named = c.put_one_named.ensures.named;
-      same = beside_then c.args.place.now.output.now c.args.sets.now c.loop-number.sets c.put_one_named.new.sets c.loop-number.invariant.same c.put_one_named.ensures.same;
+      same = beside_then c.args.place.now.output.now c.args.place.now.outputs.now c.args.sets.now c.loop-number.sets c.put_one_named.new.sets c.loop-number.invariant.same c.put_one_named.ensures.same;
       ready = λ x first ok.
           one_more_ready x (kind_of p.node) (below_of x p) order first (below_starts x p ok) i n old new at (c.loop-number.invariant.ready x first ok) c.put_one_named.ensures.others
           (subst (λ (v : RulesView). HaveSamePairs (has (get_or new n no_matrix)) (product (stay x) (put_pairs x (kind_of p.node) (below_of x p) (called_from old) (get_or v.sheet.named n no_instruction)))) ok.rules.told

@@ -9,6 +9,6 @@ use Rattle.tc_beh.proofs.named.put_named.Given as goal
 abbrev pub invariant-loop-number : goal.invariant-loop-number
 invariant-loop-number l = record {
   named : AreNamedSets l.place l.named;
-  same : IsBeside l.place.output.now l.fn.sets l.sets;
+  same : IsBeside l.place.output.now l.place.outputs.now l.fn.sets l.sets;
   ready : (x : Triple) (first : AreCalleesFirst (sheet x).named l.order) → IsGroundIn x l.place → Ready x (kind_of l.place.node) (below_of x l.place) l.order first l.number-index l.named;
 }

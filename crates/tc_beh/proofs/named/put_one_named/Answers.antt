@@ -32,10 +32,10 @@ put_body-requires-clause-sets c =
     let b = see.body (get_or sh.named.now n no_body).now in
     let same : depth_in (get_or s.named n no_instruction) ≡ depth_in b = ap depth_in (named_is s sh n c.sheet.ensures c.requires.number) in
     let low = deepest_at s.named n no_instruction c.requires.number in
-    open_elsewhere c.args.place.now _ (depth_in b) refl refl c.restart.new.self (open_on c.args.place.now (depth_in b) (deepest s.named) c.args.sets.now c.restart.new.self c.requires.sets (c.restart.ensures.same c.args.place.now.output.now) (omega (arith, same, low)))
+    open_elsewhere c.args.place.now _ (depth_in b) refl refl refl c.restart.new.self (open_on c.args.place.now (depth_in b) (deepest s.named) c.args.sets.now c.restart.new.self c.requires.sets (c.restart.ensures.same c.args.place.now.output.now c.args.place.now.outputs.now) (omega (arith, same, low)))
 
 pub returns-clause-same : goal.returns-clause-same
-returns-clause-same c = beside_then c.args.place.now.output.now c.args.sets.now c.restart.new.self c.put_body.new.sets (c.restart.ensures.same c.args.place.now.output.now) c.put_body.ensures.same
+returns-clause-same c = beside_then c.args.place.now.output.now c.args.place.now.outputs.now c.args.sets.now c.restart.new.self c.put_body.new.sets (c.restart.ensures.same c.args.place.now.output.now c.args.place.now.outputs.now) c.put_body.ensures.same
 
 pub leave-requires : goal.leave-requires
 leave-requires c =
@@ -43,7 +43,7 @@ leave-requires c =
     let sizes = c.requires.named.sizes in
     let count = c.requires.named.count in
     let low = c.requires.number in
-    sizes c.args.number c.index-named-number.result (omega (arith, count, low)) ∙ sym (c.put_body.ensures.same.size ∙ ((c.restart.ensures.same c.args.place.now.output.now).size ∙ c.requires.sets.size))
+    sizes c.args.number c.index-named-number.result (omega (arith, count, low)) ∙ sym (c.put_body.ensures.same.size ∙ ((c.restart.ensures.same c.args.place.now.output.now c.args.place.now.outputs.now).size ∙ c.requires.sets.size))
 
 pub returns-clause-called : goal.returns-clause-called
 returns-clause-called c = λ x ok.
@@ -59,7 +59,7 @@ returns-clause-called c = λ x ok.
     let put : Body → PairSet = λ d. put_pairs x (kind_of p.node) (below_of x p) (called_from old) d in
     let low : n < length old = let count = c.requires.named.count in let is = c.requires.number in omega (arith, count, is) in
     let at : get_or (set old n left) n no_matrix ≡ left = get_or-set_same old n left no_matrix low in
-    let size : begun.size ≡ outputs x = (c.restart.ensures.same c.args.place.now.output.now).size ∙ (c.requires.sets.size ∙ ok.size) in
+    let size : begun.size ≡ outputs x = (c.restart.ensures.same c.args.place.now.output.now c.args.place.now.outputs.now).size ∙ (c.requires.sets.size ∙ ok.size) in
     subst (λ (m : Matrix). HaveSamePairs (has m) (product (stay x) (put (get_or s.named n no_instruction)))) (sym at)
     (subst (λ d. HaveSamePairs (has left) (product (stay x) (put d))) (sym (named_is s sh n c.sheet.ensures c.requires.number))
     (same_on (has left) (has made) (product (stay x) (put b)) c.leave.ensures.pairs

@@ -44,16 +44,17 @@ put_on_root-requires-clause-sets c =
     let (x, is) = c.requires in
     let m = c.args.machine.now in
     let w = c.args.work.now in
-    let same = beside_then m.output w.sets c.put_named.new.sets c.restart.new.self c.put_named.ensures.same (c.restart.ensures.same m.output) in
-    open_for x m w is.work is.machine c.restart.new.self same _ refl refl _ (root_depth x m c.args.outputs.now w c.args.tree.now is)
+    let same = beside_then m.output c.args.outputs.now w.sets c.put_named.new.sets c.restart.new.self c.put_named.ensures.same (c.restart.ensures.same m.output c.args.outputs.now) in
+    open_for x m c.args.outputs.now w is.work is.machine c.restart.new.self same _ refl refl refl _ (root_depth x m c.args.outputs.now w c.args.tree.now is)
 
 pub returns-clause-work : goal.returns-clause-work
 returns-clause-work c = λ x is.
     let w = c.args.work.now in
     let put = c.put_named.ensures in
     let outer = c.args.machine.now.output in
-    let same = beside_then outer w.sets c.put_named.new.sets c.put_on_root.new.sets put.same (beside_then outer c.put_named.new.sets c.restart.new.self c.put_on_root.new.sets (c.restart.ensures.same outer) c.put_on_root.ensures.same) in
-    work_filled x c.args.machine.now w is.work c.put_on_root.new.sets same c.put_named.new.named (c.put_named.auto.named ∙ ap count_of c.as_mut_slice.ensures.value) (λ k d l. put.named.sizes k d l ∙ is.work.text_size)
+    let held = c.args.outputs.now in
+    let same = beside_then outer held w.sets c.put_named.new.sets c.put_on_root.new.sets put.same (beside_then outer held c.put_named.new.sets c.restart.new.self c.put_on_root.new.sets (c.restart.ensures.same outer held) c.put_on_root.ensures.same) in
+    work_filled x c.args.machine.now held w is.work c.put_on_root.new.sets same c.put_named.new.named (c.put_named.auto.named ∙ ap count_of c.as_mut_slice.ensures.value) (λ k d l. put.named.sizes k d l ∙ is.work.text_size)
 
 pub returns-clause-pairs : goal.returns-clause-pairs
 returns-clause-pairs c = λ x is.
@@ -75,7 +76,7 @@ returns-clause-pairs c = λ x is.
     (λ n. subst (λ (l : List Matrix). IsCalled x on_root down (called_from l) n) (sym value)
     (c.put_named.ensures.called x n (is_ground x m held w c.args.tree.now is _ refl refl c.bears.ensures c.outputs.ensures.value c.looks.ensures.value refl all refl refl refl refl))) in
     root_put x m held w c.args.tree.now is all c.bears.result os vs c.bears.ensures c.outputs.ensures.value c.looks.ensures.value c.restart.new.self.out c.put_on_root.new.sets.out
-    ((c.restart.ensures.same m.output).size ∙ (c.put_named.ensures.same.size ∙ is.work.open_size)) c.restart.ensures.out put
+    ((c.restart.ensures.same m.output c.args.outputs.now).size ∙ (c.put_named.ensures.same.size ∙ is.work.open_size)) c.restart.ensures.out put
 
 pub put_named-requires-clause-order : goal.put_named-requires-clause-order
 put_named-requires-clause-order c =
@@ -101,4 +102,4 @@ put_named-requires-clause-sets c =
     let names : (told m.rules).sheet.named ≡ (sheet x).named = ap (λ (v : RulesView). v.sheet.named) is.machine.parts.are_rules.told in
     let deep = ap deepest names in
     let depth = is.machine.depth in
-    open_for x m w is.work is.machine w.sets (beside_self m.output w.sets) _ refl refl (deepest (told m.rules).sheet.named) (omega (arith, deep, depth))
+    open_for x m c.args.outputs.now w is.work is.machine w.sets (beside_self m.output c.args.outputs.now w.sets) _ refl refl refl (deepest (told m.rules).sheet.named) (omega (arith, deep, depth))

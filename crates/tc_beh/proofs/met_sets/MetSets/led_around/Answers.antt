@@ -1,9 +1,11 @@
 use Rattle.std.proofs.Common.{◌≡◌, ◌<◌, ℕ, Option, length, IfSome, subst, sym, arith}
+use Rattle.tc_mat.specs.Held.{Held}
 use Rattle.tc_mat.specs.Matrix.{Matrix}
+use Rattle.tc_beh.specs.Links.{Tables, AreLinks}
 use Rattle.tc_beh.specs.Held.{set_at}
 use Rattle.tc_beh.specs.Opening.{IsAround, IsLow, set_or}
 use Rattle.tc_beh.proofs.Holding.{extends_at, extends_count}
-use Rattle.tc_beh.proofs.OpenLaws.{remembers_on}
+use Rattle.tc_beh.proofs.OpenLaws.{remembers_on, linked_on}
 use Rattle.tc_beh.proofs.met_sets.MetSets.led_around.Goals as goal
 
 pub returns-in-Some-clause-around : goal.returns-in-Some-clause-around
@@ -29,3 +31,10 @@ returns-clause-remembers c =
       around = subst (λ (n : Matrix). IsAround m a n (set_at mid.held k)) (sym (extends_at old.held mid.held more.held i low))
           (subst (λ (n : Matrix). IsAround m a (set_at old.held i) n) (sym number.1) (subst (λ (o : Option ℕ). IsAround m a (set_or old.held o c.args.words.now) led) e c.put_around.ensures.around));
     })
+
+pub returns-clause-links : goal.returns-clause-links
+returns-clause-links c = λ h l.
+    let mid = c.number_of-element.new.self in
+    let new = c.remember_element.new.self in
+    let here = linked_on h c.args.self.now mid c.number_of-element.ensures.more l in
+    subst (λ (t : Tables). AreLinks h new.held t) (sym c.remember_element.ensures.links) (subst (λ (k : Held). AreLinks h k mid.links) (sym c.remember_element.ensures.held) here)

@@ -10,8 +10,8 @@ returns-clause-more c =
     let old = c.self.inside.sets in
     let new = c.keep.new.outputs in
     let more = extends_kept old new c.args.set.now c.keep.result c.keep.ensures.grows c.keep.ensures.err in
-    let now : Met = record { text = set_at new c.self.inside.text; held = new; elements = c.self.inside.elements.items } in
-    subst (λ (v : Met). MeetsMore v now) c.self.view_is (record { text = extends_at old new more c.self.inside.text c.self.invariant.2; held = more; elements = refl })
+    let now : Met = record { text = set_at new c.self.inside.text; held = new; elements = c.self.inside.elements.items; links = c.self.inside.links } in
+    subst (λ (v : Met). MeetsMore v now) c.self.view_is (record { text = extends_at old new more c.self.inside.text c.self.invariant.1; held = more; elements = refl; links = refl })
 
 pub returns-clause-number : goal.returns-clause-number
 returns-clause-number c =

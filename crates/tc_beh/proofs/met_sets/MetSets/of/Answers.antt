@@ -1,4 +1,4 @@
-use Rattle.std.proofs.Common.{rules, ◌≡◌, ◌<◌, ◌+◌, ◌∙◌, ◌⊎◌, ◌++◌, ◌∷◌, [], inl, inr, ℕ, List, Option, Some, None, replicate, length, slice_get, IfSome, subst, sym, ap, refl, arith}
+use Rattle.std.proofs.Common.{◌≡◌, ◌<◌, ◌+◌, ◌∙◌, ◌⊎◌, ◌++◌, ◌∷◌, [], inl, inr, ℕ, List, Option, Some, None, replicate, length, slice_get, IfSome, subst, sym, ap, refl, arith}
 use Rattle.std.proofs.lemmas.Option.{get_or_from_slice_get}
 use Rattle.tc_mat.specs.Matrix.{Matrix, IsIdentity}
 use Rattle.tc_mat.specs.Held.{Held}
@@ -46,7 +46,6 @@ invariant_of-result c =
     let same : set_at new 0 ≡ c.in_ok-nothing.nothing = extends_at mid new more 0 some ∙ first in
     let elements : c.in_ok-elements.elements.items ≡ replicate 4096 None = c.in_ok-elements.ensures.items_if_clones_equal (nothing_else _ (λ p e. e)) in (
       count_none 4096 c.in_ok-elements.elements.items elements,
-      search rules,
       low_got new.matrices c.in-Ok-keep.text c.args.text.now c.in-Ok-keep.ensures.number,
       omega (arith, some, count),
       subst IsIdentity (sym same) c.in_ok-nothing.ensures.pairs,

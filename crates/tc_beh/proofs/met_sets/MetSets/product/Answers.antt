@@ -15,7 +15,7 @@ returns-then-first-eq-NOTHING c =
       c.in-Some-Some.is-0,
       c.in-Some-Some.is-1,
       subst (λ (v : Met). IsProduct v.held i j j) c.self.view_is
-          (subst (λ n. IsProduct h n j j) (sym c.if-first-eq-NOTHING.true) (nothing_first h c.len-met.ensures.matrices c.self.invariant.3 c.self.invariant.4 j low)),
+          (subst (λ n. IsProduct h n j j) (sym c.if-first-eq-NOTHING.true) (nothing_first h c.len-met.ensures.matrices c.self.invariant.2 c.self.invariant.3 j low)),
     )
 
 pub returns-then-second-eq-NOTHING : goal.returns-then-second-eq-NOTHING
@@ -29,5 +29,5 @@ returns-then-second-eq-NOTHING c =
       c.in-Some-Some.is-0,
       c.in-Some-Some.is-1,
       subst (λ (v : Met). IsProduct v.held i j i) c.self.view_is
-          (subst (λ n. IsProduct h i n i) (sym c.if-second-eq-NOTHING.true) (nothing_second h c.len-met.ensures.matrices c.self.invariant.3 c.self.invariant.4 i low)),
+          (subst (λ n. IsProduct h i n i) (sym c.if-second-eq-NOTHING.true) (nothing_second h c.len-met.ensures.matrices c.self.invariant.2 c.self.invariant.3 i low)),
     )

@@ -1,10 +1,10 @@
 use Rattle.std.proofs.Common.{◌≡◌, ◌+◌, ◌∙◌, set, map, drop, get_or, subst, sym, ap, refl, arith}
 use Rattle.tc_mat.specs.Matrix.{Matrix, IsComposition}
-use Rattle.tc_beh.specs.Opening.{Open, IsAround, IsOpenSet, no_set, set_or, set_of}
+use Rattle.tc_beh.specs.Opening.{Open, AreLinked, IsAround, IsOpenSet, no_set, set_or, set_of}
 use Rattle.tc_beh.specs.declared.open_sets.OpenSet.{OpenSet}
 use Rattle.tc_beh.proofs.Holding.{extends_then}
 use Rattle.std.proofs.lemmas.List.{get_or_default}
-use Rattle.tc_beh.proofs.OpenLaws.{top_size, place_behind, remembers_on, next_place, set_size}
+use Rattle.tc_beh.proofs.OpenLaws.{top_size, place_behind, remembers_on, linked_on, next_place, set_size}
 use Rattle.std.proofs.lemmas.List.{drop-set-lt, get_or-set_same}
 use Rattle.std.proofs.lemmas.List.Elements.{All-drop}
 use Rattle.tc_beh.proofs.OpenLaws.{sets_on}
@@ -29,6 +29,9 @@ returns-clause-size c =
 
 pub returns-clause-remembers : goal.returns-clause-remembers
 returns-clause-remembers c = remembers_on c.args.output.now c.led_around-number.new.self c.put_behind.new.met c.put_behind.ensures.more c.led_around-number.ensures.remembers
+
+pub returns-clause-links : goal.returns-clause-links
+returns-clause-links c = λ h l. linked_on h c.led_around-number.new.self c.put_behind.new.met c.put_behind.ensures.more (c.led_around-number.ensures.links h (subst (λ (v : Open). AreLinked h v.met) (sym c.self.view_is) l))
 
 pub returns-clause-pairs : goal.returns-clause-pairs
 returns-clause-pairs c = λ o us waits.

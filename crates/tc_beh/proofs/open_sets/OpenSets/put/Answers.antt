@@ -3,7 +3,7 @@ use Rattle.tc_mat.specs.Matrix.{IsComposition}
 use Rattle.tc_beh.specs.Opening.{Open, IsOpenSet, IsBeside, no_set}
 use Rattle.tc_beh.proofs.Holding.{extends_then}
 use Rattle.std.proofs.lemmas.List.{get_or_default}
-use Rattle.tc_beh.proofs.OpenLaws.{top_size, place_behind, remembers_on, opened, place_put, number_set}
+use Rattle.tc_beh.proofs.OpenLaws.{top_size, place_behind, remembers_on, linked_on, opened, place_put, number_set}
 use Rattle.tc_beh.proofs.open_sets.OpenSets.put.Goals as goal
 
 pub number_of-number-requires : goal.number_of-number-requires
@@ -16,7 +16,7 @@ put_behind-requires-clause-words c =
     ∙ (ap (λ (v : Open). v.out.size) (sym c.self.view_is) ∙ (top_size c.self.inside.met c.self.inside.places.items c.self.inside.free c.self.invariant.0 c.self.invariant.1 c.self.invariant.4 ∙ sym c.number_of-number.ensures.more.held.size))
 
 pub returns-clause-same : goal.returns-clause-same
-returns-clause-same c = λ m.
+returns-clause-same c = λ m h.
     let a = c.self.inside.met in
     let mid = c.number_of-number.new.self in
     let b = c.put_behind.new.met in
@@ -25,8 +25,8 @@ returns-clause-same c = λ m.
     let low = c.self.invariant.0 in
     let first = c.number_of-number.ensures.more in
     let last = c.put_behind.ensures.more in
-    subst (λ (v : Open). IsBeside m v (opened b (set os f c.put_behind.new.out) f)) c.self.view_is
-    (place_put m a b (extends_then a.held mid.held b.held first.held last.held) (last.text ∙ first.text) (λ r. remembers_on m mid b last (remembers_on m a mid first r)) c.self.invariant.4 c.put_behind.ensures.matrices os f low c.self.invariant.1
+    subst (λ (v : Open). IsBeside m h v (opened b (set os f c.put_behind.new.out) f)) c.self.view_is
+    (place_put m h a b (extends_then a.held mid.held b.held first.held last.held) (last.text ∙ first.text) (λ r. remembers_on m mid b last (remembers_on m a mid first r)) (λ l. linked_on h mid b last (linked_on h a mid first l)) c.self.invariant.4 c.put_behind.ensures.matrices os f low c.self.invariant.1
     c.put_behind.new.out c.put_behind.ensures.out)
 
 pub returns-clause-pairs : goal.returns-clause-pairs

@@ -133,12 +133,12 @@ returns-in_err-put_append-clause-partly c =
 pub returns-clause-rows : goal.returns-clause-rows
 returns-clause-rows c = λ x is.
     rows_after x c.args.self.now is c.put_append.new.outputs c.put_append.ensures.held (record c.args.self.now.work { set = c.put_append.new.set })
-    (work_set x c.args.self.now.machine.now c.args.self.now.work is.work c.put_append.new.set c.put_append.ensures.set) _ refl refl refl
+    (work_set x c.args.self.now.machine.now c.args.self.now.outputs c.args.self.now.work is.work c.put_append.new.outputs c.put_append.ensures.held c.put_append.new.set c.put_append.ensures.set) _ refl refl refl
 
 pub returns-in_err-put_append-clause-rows : goal.returns-in_err-put_append-clause-rows
 returns-in_err-put_append-clause-rows c = λ x is.
     rows_after x c.args.self.now is c.put_append.new.outputs c.put_append.ensures.held (record c.args.self.now.work { set = c.put_append.new.set })
-    (work_set x c.args.self.now.machine.now c.args.self.now.work is.work c.put_append.new.set c.put_append.ensures.set) _ refl refl refl
+    (work_set x c.args.self.now.machine.now c.args.self.now.outputs c.args.self.now.work is.work c.put_append.new.outputs c.put_append.ensures.held c.put_append.new.set c.put_append.ensures.set) _ refl refl refl
 
 pub returns-clause-room : goal.returns-clause-room
 returns-clause-room c = beside_then c.args.out.now.room c.put_kind.new.out c.put_append.new.out c.put_kind.ensures.beside c.put_append.ensures.beside

@@ -56,7 +56,7 @@ returns-clause-rows c = λ x is.
     record {
       machine = is.machine;
       size = put.held.size ∙ is.size;
-      work = work_set x c.args.self.now.machine.now c.args.self.now.work is.work c.put_empty.new.set put.set;
+      work = work_set x c.args.self.now.machine.now c.args.self.now.outputs c.args.self.now.work is.work c.put_empty.new.outputs put.held c.put_empty.new.set put.set;
     }
 
 pub returns-clause-grows : goal.returns-clause-grows

@@ -7,5 +7,5 @@ returns-clause-stands c = λ x is size.
     record {
       machine = is;
       size = ap (λ (h : Held). h.size) c.in_ok-outputs.ensures ∙ size;
-      work = c.in_ok-work.ensures x is;
+      work = c.in_ok-work.ensures x c.in_ok-outputs.outputs is;
     }

@@ -11,7 +11,7 @@ use Rattle.tc_beh.proofs.Steps.{no_value}
 use Rattle.tc_beh.proofs.rows.Work.new.Goals as goal
 
 pub returns : goal.returns
-returns c = λ x is.
+returns c = λ x h is.
     let m = c.args.machine.now in
     let automaton = c.auto.result.now in
     let stands : a.Stands output x.output automaton = subst (λ (b : Auto). a.Stands output x.output b) (sym c.auto.ensures) is.parts.states.auto in
@@ -29,6 +29,7 @@ returns c = λ x is.
       open_room = c.in_ok-sets.ensures.room;
       open_text = c.in_ok-sets.ensures.text;
       remembers = c.in_ok-sets.ensures.remembers m.output;
+      links = c.in_ok-sets.ensures.links h;
       known = c.in_ok-known.ensures x.symbols x.rules;
     }
 
