@@ -15,6 +15,10 @@ use Rattle.tc_beh.specs.RowsOf.{IsWork}
 use Rattle.tc_beh.specs.declared.entries.Node.{Node}
 use Rattle.tc_beh.specs.declared.machine.Machine.{Machine}
 use Rattle.tc_beh.specs.declared.rows.Work.{Work}
+use Rattle.tc_rules.specs.KnownRules.{AreKnown}
+use Rattle.tc_rules.specs.declared.known_rules.KnownRules.{KnownRules}
+use Rattle.tc_beh.proofs.Nodes.{work_kept}
+use Rattle.tc_beh.proofs.OpenLaws.{beside_self}
 use Rattle.tc_beh.proofs.Holding.{extends_self, extends_at, extends_count, nothing_found, grows_step}
 
 -- numbers of held sets go on meaning the same
@@ -24,6 +28,17 @@ entries_kept a b e (k ∷ ks) low =
     let here : pairs_of (set_at b k) ≡ pairs_of (set_at a k) = ap pairs_of (extends_at a b e k (low 0 0 (omega arith))) in
     let rest : entries_by b.matrices ks ≡ entries_by a.matrices ks = entries_kept a b e ks (λ i d l. low (suc i) d (omega (arith, l))) in
     λ i. here i ∷ rest i
+
+-- more rules are remembered
+module _ (x : Triple) (m : Machine) (a : Held) (w : Work) (n : Node) (ok : AreGrounds x m a w n) where
+  pub rules_kept : (rules : KnownRules) → AreKnown x.symbols x.rules rules → AreGrounds x m a (record w { known = rules }) n
+  rules_kept rules known = record {
+    machine = ok.machine;
+    size = ok.size;
+    work = work_kept x m a w ok.work w.sets (beside_self m.output a w.sets) rules known;
+    node = ok.node;
+    leads = ok.leads;
+  }
 
 module _ (x : Triple) (m : Machine) (a b : Held) (e : Extends a b) (w : Work) (n : Node) (ok : AreGrounds x m a w n) where
   pub grounds_kept : (v : Work) → IsWork x m b v → AreGrounds x m b v n
@@ -48,6 +63,10 @@ module _ (x : Triple) (m : Machine) (a b : Held) (e : Extends a b) (w : Work) (n
   called_kept under sets c k =
       subst (λ (d : Below). IsCalled x (node_of (letter_of n.letter).kind) d (called_from sets) k)
       (ap (λ es. below_at x (node_of (letter_of n.letter).kind) n.bears es n.looks.now under) (sym read_kept)) (c k)
+
+  pub called_back : (under : ℕ) (sets : List Matrix) → AreCalledOn x b n under sets → AreCalledOn x a n under sets
+  called_back under sets c k =
+      subst (λ (d : Below). IsCalled x (node_of (letter_of n.letter).kind) d (called_from sets) k) (ap (λ es. below_at x (node_of (letter_of n.letter).kind) n.bears es n.looks.now under) read_kept) (c k)
 
 module _ (x : Triple) (es : List (List (ℕ × ℕ))) (n : Node) where
   pub comes_none : (a : Held) (f : ℕ → ℕ) → Comes x es n a a f 0
@@ -80,7 +99,7 @@ module _ (x : Triple) (es : List (List (ℕ × ℕ))) (n : Node) where
   comes_same a b f i j e so = subst (Comes x es n a b f) e so
 
 -- a place of a row of entries is one of the room's
-row_step : (q m e : ℕ) → (q + 1) * m ≤ e → q * m + m ≤ e
+pub row_step : (q m e : ℕ) → (q + 1) * m ≤ e → q * m + m ≤ e
 row_step q m e h = grind arith
 
 pub row_within : (q k n m e : ℕ) → n ≡ m → k < n → (q + 1) * m ≤ e → q * n + k < e

@@ -9,7 +9,9 @@ use Rattle.tc_model.specs.Numberings.{predicates_of}
 use Rattle.tc_model.specs.PathStates.{State, is_empty_state, is_hit, next_state}
 use Rattle.tc_model.specs.Sheets.{Body, CallFreeBody, Path, Test}
 use Rattle.tc_model.specs.StateCounts.{PathUse}
-use Rattle.tc_rules.specs.Kept.{told}
+use Rattle.tc_model.specs.Symbols.{Mention}
+use Rattle.tc_rules.specs.Jobs.{IsJob}
+use Rattle.tc_rules.specs.Kept.{told, IsRulesOf}
 use Rattle.tc_rules.specs.RulesView.{RulesView, IsStateOf, is_hit_of, select_below, select_count, move_count, ancestor, ancestor_below}
 use Rattle.tc_rules.specs.States.{Going, body_by, built_in_at}
 use Rattle.tc_rules.specs.Tasks.{IsMoveAt, IsTaskOf}
@@ -146,3 +148,16 @@ under_found x r is l q k e =
       low = slice_get_within x.rules.ancestors.states k (ancestor_below x.symbols x.rules q l) at;
       below = λ a f. sym (ancestor_number x is.triple k (ancestor_below x.symbols x.rules q l) at);
     }
+
+-- the job of a state of a move
+module _ (x : Triple) (r : Rules) (is : IsRulesIn x r) (k : ℕ) where
+  pub is_job : (j : Job) → k < move_count (told r) → ((symbols : List Mention) (b : PathUse) (s : State) → IsRulesOf symbols r → IsStateOf (told r) k b s → IsJob (told r).sheet j) → IsJob (told r).sheet j
+  is_job j low job =
+      let (g, at) = some_move x r is k low in
+      job x.symbols (of_move g.path at.mode) g.state is.rules (state_told x r is k (of_move g.path at.mode) g.state at.state)
+
+  pub told_task : (g : Going) (at : IsMoveAt x.rules k g) (j : Job) → ((symbols : List Mention) (b : PathUse) (s : State) → IsRulesOf symbols r → IsStateOf (told r) k b s → b.mode ≡ Some (mode_of (told r).sheet.modes j))
+      → IsTaskOf (sheet x) (mode_of (sheet x).modes j) g.task
+  told_task g at j mode =
+      let b : PathUse = of_move g.path at.mode in
+      sheet_modes x r is j g.task (task_told x r is at.mode (mode_of (told r).sheet.modes j) g.task (mode x.symbols b g.state is.rules (state_told x r is k b g.state at.state)) at.task)

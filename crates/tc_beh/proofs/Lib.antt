@@ -36,6 +36,7 @@ pub mod Together
 pub mod Hitting
 pub mod Nodes
 pub mod Coming
+pub mod Before
 pub mod InOrder
 pub mod SameParts
 pub mod LeftOut

@@ -217,7 +217,7 @@ module _ (x : Triple) (m : Machine) (held : Held) (w : Work) (is : IsWork x m he
   }
 
 -- where an entry stands tells its numbers
-rises : (q a m : ℕ) → q < a → q * m + m ≤ a * m
+pub rises : (q a m : ℕ) → q < a → q * m + m ≤ a * m
 rises q a m l = grind arith
 
 pub flat_one : (q k a s m : ℕ) → k < m → s < m → a * m + s ≡ q * m + k → (a ≡ q) × (s ≡ k)

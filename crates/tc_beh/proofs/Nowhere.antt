@@ -20,12 +20,10 @@ use Rattle.tc_rows.proofs.PairLaws.{same_back, same_on, product_same, chosen_sec
 use Rattle.tc_rows.proofs.Reading.{fewer_moves}
 use Rattle.tc_rows.proofs.States.{empty_number}
 use Rattle.tc_beh.specs.Above.{letter_of, pairs_at}
-use Rattle.tc_beh.specs.Entries.{IsEntryAt, IsNothing}
-use Rattle.tc_beh.specs.Held.{Extends, set_at}
+use Rattle.tc_beh.specs.Entries.{IsEntryAt}
 use Rattle.tc_beh.specs.Putting.{has}
 use Rattle.tc_beh.specs.declared.entries.Node.{Node}
 use Rattle.tc_beh.proofs.Hitting.{of_move}
-use Rattle.tc_beh.proofs.Holding.{extends_at, extends_count}
 use Rattle.tc_beh.proofs.Nodes.{flat_one}
 use Rattle.tc_beh.proofs.Starts.{stay_first, identity_begun, stay_starts}
 
@@ -69,13 +67,3 @@ module _ (x : Triple) (triple : IsTriple x) (es : List (List (ℕ × ℕ))) (n :
       subst (λ c. HaveSamePairs (has m) (pairs_at x n.bears es n.looks.now c (number_below x c (letter_of n.letter)) at.mode g n.letter.marks.0 (letter_of n.letter).kind)) same
       (subst (λ j. (st : IsMoveAt x.rules j g) → HaveSamePairs (has m) (pairs_at x n.bears es n.looks.now q (number_below x q (letter_of n.letter)) st.mode g n.letter.marks.0 (letter_of n.letter).kind)) here
       (λ st. at_kind g st (letter_of n.letter).kind refl) at)
-
--- a number of the set of each state with itself goes on being one
-pub nothing_kept : (a b : Held) → Extends a b → (o : Option ℕ) → IsNothing a o → IsNothing b o
-nothing_kept a b e (Some k) (low, is, size) =
-    let same : set_at b k ≡ set_at a k = extends_at a b e k low in (
-      (let up = extends_count a b e in omega (arith, low, up)),
-      subst IsIdentity (sym same) is,
-      ap (λ (m : Matrix). m.size) same ∙ (size ∙ sym e.size),
-    )
-nothing_kept a b e None h = tt

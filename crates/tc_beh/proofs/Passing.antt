@@ -1,5 +1,5 @@
 -- An entry of an element that its state doesn't hit is one below the element.
-use Rattle.std.proofs.Common.{◌≡◌, ◌<◌, ◌+◌, ◌*◌, ℕ, List, [], length, get_or, true, false, nat_lt, Result, Ok, Err, IfOk, subst, sym, ◌∙◌, arith, All}
+use Rattle.std.proofs.Common.{◌≡◌, ◌<◌, ◌+◌, ◌*◌, ℕ, List, [], length, get_or, true, false, nat_lt, Option, Some, None, IfSome, Result, Ok, Err, IfOk, subst, sym, ◌∙◌, arith, All}
 use Rattle.std.proofs.lemmas.Bool.{lt-ltb}
 use Rattle.std.proofs.lemmas.List.{get_or-map}
 use Rattle.tc_mat.specs.Matrix.{Matrix}
@@ -108,6 +108,11 @@ place_inside x r rules held n node a kind above next h l =
 pub if_ok_map : {X E : Type 0} (r : Result X E) (P Q : X → Type 0) → ((v : X) → P v → Q v) → IfOk r P → IfOk r Q
 if_ok_map (Ok v) P Q f p = f v p
 if_ok_map (Err e) P Q f p = tt
+
+-- a number of which one thing is known
+pub if_some_map : (o : Option ℕ) (P Q : ℕ → Type 0) → ((k : ℕ) → P k → Q k) → IfSome o P → IfSome o Q
+if_some_map (Some k) P Q f p = f k p
+if_some_map None P Q f p = tt
 
 pub next_inside : (x : Triple) (r : Rules) → IsRulesIn x r → (held : Held) (n : Node) → IsNode x held n → (a : ℕ) → (letter_of n.letter).kind ≡ of_symbol a → (above s next : ℕ) (w : letters.Letter)
     → above < length (told r).ancestors.states → s < move_count (told r)

@@ -6,7 +6,7 @@ use Rattle.tc_mat.specs.declared.pools.MatId.{MatId}
 use Rattle.tc_mat.specs.declared.pools.PoolFault.{PoolFault}
 use Rattle.tc_beh.specs.Held.{Extends, set_at}
 use Rattle.tc_beh.specs.Remembered.{IsProduct, AreRemembered}
-use Rattle.tc_beh.specs.declared.held_sets.Product.{Product}
+use Rattle.tc_beh.specs.declared.products.Product.{Product}
 use Rattle.tc_beh.proofs.Holding.{extends_at, extends_count}
 
 pub product_on : (a b : Held) → Extends a b → (i j k : ℕ) → IsProduct a i j k → IsProduct b i j k
@@ -27,7 +27,7 @@ one_on : (a b : Held) → Extends a b → (o : Option Product) → IfSome o (λ 
 one_on a b e None is = is
 one_on a b e (Some p) is = product_on a b e p.first p.second p.product is
 
-remembered_on : (a b : Held) → Extends a b → (ps : List (Option Product)) → AreRemembered a ps → AreRemembered b ps
+pub remembered_on : (a b : Held) → Extends a b → (ps : List (Option Product)) → AreRemembered a ps → AreRemembered b ps
 remembered_on a b e ps are = λ k d low. one_on a b e (get_or ps k d) (are k d low)
 
 pub remembered_more : (a b : Held) (m : Matrix) (r : Result MatId PoolFault) (ps : List (Option Product)) → IfOk r (λ id. (id.0 ≡ length a.matrices) × (b ≡ record a { matrices = a.matrices ++ m ∷ [] })) → OnErr r (b ≡ a) → AreRemembered a ps

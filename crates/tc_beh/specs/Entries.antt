@@ -71,11 +71,7 @@ pub record IsMadeOf (m : Machine) (h : Held) (t : Matrix) (ms : List Matrix) (n 
   pub above : p.above ≡ under
   pub sets : AreMatrices h
 
--- a number, if there is one, is that of the held set of each state with itself
-abbrev pub IsNothing : Held → Option ℕ → Type 0
-IsNothing h o = IfSome o (λ k. (k < length h.matrices) × IsIdentity (set_at h k) × ((set_at h k).size ≡ h.size))
-
--- that set isn't held
+-- the set of each state with itself isn't held
 abbrev pub IsNewNothing : Held → Type 0
 IsNewNothing h = (m : Matrix) × IsIdentity m × (m.size ≡ h.size) × IsMatrix m × ¬ IsHeld h m
 
@@ -88,6 +84,10 @@ module _ (x : Triple) (es : List (List (ℕ × ℕ))) (n : Node) where
   -- a set of pairs of that place isn't held
   abbrev pub IsNewEntry : Held → ℕ → Type 0
   IsNewEntry h i = (m : Matrix) × IsEntryAt i m × (m.size ≡ h.size) × IsMatrix m × ¬ IsHeld h m
+
+  -- if there is an ancestor state before: it leads to the same, and what stands at its place is its entry
+  abbrev pub IsBefore : Held → ℕ → ℕ → (ℕ → ℕ) → Option ℕ → Type 0
+  IsBefore h under s numbers o = IfSome o (λ q. IsUnder x (letter_of n.letter) q under × (q < ancestors x) × IsEntryAt (q * moves x + s) (set_at h (numbers (q * moves x + s))))
 
   -- what is held has come to hold so many of the entries, and no other sets
   pub record Comes (old new : Held) (numbers : ℕ → ℕ) (count : ℕ) : Type 0 where

@@ -26,4 +26,5 @@ pub mod Lines
 pub mod Remembered
 pub mod AlikeSymbols
 pub mod Links
+pub mod Named
 pub mod Opening

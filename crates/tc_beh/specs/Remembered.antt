@@ -2,7 +2,7 @@
 use Rattle.std.specs.Prelude.{◌<◌, ℕ, List, [], length, get_or, Option, All, IfSome}
 use Rattle.tc_mat.specs.Matrix.{Matrix, IsComposition}
 use Rattle.tc_mat.specs.Held.{Held}
-use Rattle.tc_beh.specs.declared.held_sets.Product.{Product}
+use Rattle.tc_beh.specs.declared.products.Product.{Product}
 
 -- the set of a number
 abbrev of_number : Held → ℕ → Matrix

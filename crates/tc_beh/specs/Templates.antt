@@ -1,5 +1,5 @@
 -- What a template means on a node.
-use Rattle.std.specs.Prelude.{◌≡◌, ◌<◌, ℕ, max, List}
+use Rattle.std.specs.Prelude.{◌≡◌, ◌<◌, ◌⊎◌, ℕ, max, List, false}
 use Rattle.tc_model.specs.Letters.{Letter}
 use Rattle.tc_model.specs.Meaning.{all_children}
 use Rattle.tc_model.specs.Sheets.{Sheet, Body, CallFreeBody, p_done, p_apply, p_self, Inlines}
@@ -8,6 +8,7 @@ use Rattle.tc_rules.specs.Parts.{IsPart}
 use Rattle.tc_rules.specs.RulesView.{ancestor}
 use Rattle.tc_rules.specs.States.{Going, body_by, built_in_at}
 use Rattle.tc_rows.specs.Triples.{Triple, sheet, predicates}
+use Rattle.tc_rows.specs.Arithmetic.{hits}
 use Rattle.tc_rows.specs.Bodies.{NodeKind, on_root, on_element, on_text}
 use Rattle.tc_beh.specs.Heights.{depth_in, deepest, deepest_rule}
 use Rattle.tc_beh.specs.Places.{kind_of, below_of, called_by}
@@ -24,6 +25,14 @@ IsTemplate named own (t.BuiltIn mode) p = p ≡ own mode
 -- what is meant on a node of a letter that a move hits, by the ancestor state above the node
 abbrev pub IsMeantAt : Triple → Going → ℕ → Letter → Template → Type 0
 IsMeantAt x g q l w = IsTemplate (sheet x).named (λ m. built_in_at m l.kind) w (body_by x.symbols (predicates x) (sheet x).rules x.bodies g.task (ancestor x.rules q) l)
+
+-- the body that is meant on a node of a letter that a move hits, by the ancestor state above the node
+abbrev pub body_meant : Triple → Going → ℕ → Letter → CallFreeBody
+body_meant x g q l = body_by x.symbols (predicates x) (sheet x).rules x.bodies g.task (ancestor x.rules q) l
+
+-- a state doesn't hit a node, or the same is meant there above the one and above the other ancestor state
+abbrev pub IsAlike : Triple → Going → Letter → ℕ → ℕ → Type 0
+IsAlike x g l q p = (hits x g.path g.state l ≡ false) ⊎ (body_meant x g q l ≡ body_meant x g p l)
 
 -- it is part of the stylesheet
 abbrev pub IsPartTemplate : Sheet → Template → Type 0

@@ -157,7 +157,7 @@ impl Alike {
             &machine.input,
             &machine.output,
             asked.as_slice(),
-            &machine.alphabet,
+            machine.alphabet(),
         )?;
         Ok(Alike { firsts })
     }

@@ -24,7 +24,8 @@ ghost use Rattle.tc_beh.specs.Places.{IsPlace, IsPlaceIn, kind_of, below_of, cal
 use crate::held_sets::HeldSets;
 use crate::looks::{holds, look};
 use crate::open_sets::OpenSets;
-use tc_alpha::{Alphabet, Sym};
+use crate::symbols::Symbols;
+use tc_alpha::Sym;
 use tc_hedge::Hedge;
 use tc_mat::Mat;
 use tc_model::{Branch, Instr, NodeTest, Path, Step, Test, is_white_space_only};
@@ -59,7 +60,7 @@ pub(crate) enum At {
 pub(crate) struct Place<'a, 'b> {
     pub(crate) rules: &'a Rules<'b>,
     pub(crate) output: &'a Hedge<'b>,
-    pub(crate) alphabet: &'a Alphabet,
+    pub(crate) alphabet: &'a Symbols<'b>,
     pub(crate) outputs: &'a HeldSets,
     /// The pairs of a text that isn't white space alone.
     pub(crate) text: &'a Mat,

@@ -1,6 +1,6 @@
 // The entries of a node, worked out from what stands below it: for each ancestor state above it, and in it for each state of a
 // move, where what is put out on the node and below it leads the output.
-ghost use Rattle.std.specs.Prelude.{◌≡◌, ◌<◌, ◌≤◌, ◌+◌, ◌*◌, ◌⊎◌, ℕ, List, length, get_or, IfOk, IfSome, OnOk, OnErr, true, false, All};
+ghost use Rattle.std.specs.Prelude.{◌≡◌, ◌<◌, ◌≤◌, ◌+◌, ◌*◌, ◌⊎◌, ℕ, List, length, get_or, IfOk, Some, IfSome, OnOk, OnErr, true, false, All};
 ghost use Rattle.std.specs.Result.{IsErrOf};
 ghost use Rattle.tc_mat.specs.Matrix.{Matrix, IsMatrix, IsIdentity};
 ghost use Rattle.tc_hedge.specs.declared.hedge.Hedge.{Hedge};
@@ -8,10 +8,13 @@ ghost use Rattle.tc_mat.specs.Held.{Held, IsHeld};
 ghost use Rattle.tc_model.specs.Letters.{IsLetter};
 ghost use Rattle.tc_rules.specs.Asked as asked;
 ghost use Rattle.tc_rules.specs.Kept.{told};
+ghost use Rattle.tc_rules.specs.KnownRules.{AreKnown};
 ghost use Rattle.tc_rules.specs.RulesView.{move_count};
+ghost use Rattle.tc_rules.specs.States.{Going};
+ghost use Rattle.tc_rules.specs.Tasks.{IsMoveAt};
 ghost use Rattle.tc_rows.specs.Triples.{Triple, predicates, moves as moves_of, outputs as outputs_of};
 ghost use Rattle.tc_beh.specs.Above.{letter_of, node_of};
-ghost use Rattle.tc_beh.specs.Entries.{IsNode, IsNothing, IsNewNothing, IsNewEntry, AreGrounds, AreSomeGrounds, AreCalledOn, IsUnder, IsMadeOf, IsEntryAt, Comes, ComesPartly};
+ghost use Rattle.tc_beh.specs.Entries.{IsNode, IsNewNothing, IsNewEntry, AreGrounds, AreSomeGrounds, AreCalledOn, IsUnder, IsMadeOf, IsEntryAt, IsBefore, Comes, ComesPartly};
 ghost use Rattle.tc_beh.specs.Held.{Extends, set_at};
 ghost use Rattle.tc_beh.specs.Leads.{AreLeads};
 ghost use Rattle.tc_beh.specs.Opening.{AreLinked, IsBeside};
@@ -20,6 +23,7 @@ ghost use Rattle.tc_beh.specs.Rooms.{output_at};
 ghost use Rattle.tc_beh.specs.RoomsOf.{IsRoomBeside};
 ghost use Rattle.tc_beh.specs.RowsOf.{IsWork};
 ghost use Rattle.tc_beh.specs.Stands.{IsRulesIn};
+ghost use Rattle.tc_beh.specs.Templates.{IsAlike};
 
 use crate::above::{Letter, put_entry_above};
 use crate::bodies::{At, Place, entry_place};
@@ -31,10 +35,9 @@ use crate::open_sets::OpenSets;
 use crate::outputs::{RowFault, keep};
 use crate::rooms::Room;
 use crate::rows::Work;
-use crate::sets::put_identity;
-use crate::templates::template_at;
+use crate::templates::{are_alike, template_at};
 use tc_mat::Mat;
-use tc_rules::{Kind, Rules};
+use tc_rules::{Kind, KnownRules, Rules};
 
 /// A node that isn't the root: its letter, and what stands below it.
 #[derive(Clone, Copy)]
@@ -48,11 +51,13 @@ pub(crate) struct Node<'a> {
     pub(crate) leads: &'a [Lead],
 }
 
-/// Where an entry of a node stands: the ancestor state above the node, that for what stands below it, and the state of a move.
+/// Where an entry of a node stands: the ancestor state above the node, that for what stands below it, an ancestor state before
+/// that leads to the same, and the state of a move.
 #[derive(Clone, Copy)]
 struct Spot {
     ancestor: u32,
     above: u32,
+    before: Option<u32>,
     state: u32,
 }
 
@@ -131,6 +136,112 @@ fn put_named_on(
         work.named.as_mut_slice(),
         &mut work.sets,
     );
+}
+
+/// Works out the sets of the bodies of named templates on a node, if that isn't done yet.
+fn ready_named(
+    machine: &Machine<'_>,
+    outputs: &HeldSets,
+    work: &mut Work,
+    node: Node<'_>,
+    above: u32,
+    is_ready: &mut bool,
+)
+    requires grounds { AreSomeGrounds machine.now outputs.now work.old node }
+    requires above { above < length (told machine.now.rules).ancestors.states }
+    ensures work { (x : Triple) → AreGrounds x machine.now outputs.now work.old node.entry
+        → IsWork x machine.now outputs.now work.new }
+    ensures called { (x : Triple) → AreGrounds x machine.now outputs.now work.old node.entry
+        → (is_ready.old ≡ true
+        → AreCalledOn x outputs.now node.entry above work.old.named.items)
+        → AreCalledOn x outputs.now node.entry above work.new.named.items }
+{
+    if *is_ready {
+        return;
+    }
+    put_named_on(machine, outputs, work, node, above);
+    *is_ready = true;
+}
+
+/// An ancestor state before one that leads to the same below a node.
+fn before_of(rules: &Rules<'_>, letter: Letter, ancestor: u32, above: u32) -> Option<u32>
+    requires ancestor { ancestor < length (told rules.now).ancestors.states }
+    requires letter { (x : Triple) × IsRulesIn x rules.now
+        × IsLetter x.symbols (predicates x) (letter_of letter) }
+    ensures { IfSome result (λ q. (q < ancestor) × ((x : Triple) → IsRulesIn x rules.now
+        → IsLetter x.symbols (predicates x) (letter_of letter)
+        → IsUnder x (letter_of letter) q above)) }
+{
+    for before in 0..ancestor {
+        if state_below(rules, letter, before) == above {
+            return Some(before);
+        }
+    }
+    None
+}
+
+/// True only where a state doesn't hit a node, or the same is to be done there above the one and above the other ancestor state.
+fn are_alike_at(
+    machine: &Machine<'_>,
+    known: &mut KnownRules,
+    node: Node<'_>,
+    before: u32,
+    spot: Spot,
+) -> bool
+    requires node { (x : Triple) × IsRulesIn x machine.now.rules
+        × IsLetter x.symbols (predicates x) (letter_of node.letter) }
+    requires leads { AreLeads machine.now.rules node.letter node.leads.now }
+    requires before { before < length (told machine.now.rules).ancestors.states }
+    requires ancestor { spot.ancestor < length (told machine.now.rules).ancestors.states }
+    requires state { spot.state < move_count (told machine.now.rules) }
+    ensures known { (x : Triple) → IsRulesIn x machine.now.rules
+        → AreKnown x.symbols x.rules known.old → AreKnown x.symbols x.rules known.new }
+    ensures alike { result ≡ true → (x : Triple) (g : Going) → IsRulesIn x machine.now.rules
+        → IsLetter x.symbols (predicates x) (letter_of node.entry.letter)
+        → AreKnown x.symbols x.rules known.old → IsMoveAt x.rules spot.state g
+        → IsAlike x g (letter_of node.entry.letter) before spot.ancestor }
+{
+    let rules = &machine.rules;
+    let lead = lead_at(rules, node.letter, node.leads, spot.state);
+    if lead.hits {
+        are_alike(rules, known, node.letter, before, spot.ancestor, spot.state)
+    } else {
+        true
+    }
+}
+
+/// The number of an entry that is that of an ancestor state before, if it is known to be.
+fn as_before(
+    machine: &Machine<'_>,
+    known: &mut KnownRules,
+    node: Node<'_>,
+    spot: Spot,
+    out: &Room,
+) -> Option<u32>
+    requires node { (x : Triple) × IsRulesIn x machine.now.rules
+        × IsLetter x.symbols (predicates x) (letter_of node.letter) }
+    requires leads { AreLeads machine.now.rules node.letter node.leads.now }
+    requires ancestor { spot.ancestor < length (told machine.now.rules).ancestors.states }
+    requires state { spot.state < move_count (told machine.now.rules) }
+    requires before { IfSome spot.before (λ q. q < spot.ancestor) }
+    requires room { (spot.ancestor + 1) * move_count (told machine.now.rules) ≤ out.now.entries }
+    ensures known { (x : Triple) → IsRulesIn x machine.now.rules
+        → AreKnown x.symbols x.rules known.old → AreKnown x.symbols x.rules known.new }
+    ensures entry { IfSome result (λ k. (q : ℕ) × (spot.before ≡ Some q)
+        × (k ≡ output_at out.now.flags out.now.numbers.items
+        (q * move_count (told machine.now.rules) + spot.state))
+        × ((x : Triple) (g : Going) → IsRulesIn x machine.now.rules
+        → IsLetter x.symbols (predicates x) (letter_of node.entry.letter)
+        → AreKnown x.symbols x.rules known.old → IsMoveAt x.rules spot.state g
+        → IsAlike x g (letter_of node.entry.letter) q spot.ancestor)) }
+{
+    let Some(before) = spot.before else {
+        return None;
+    };
+    if !are_alike_at(machine, known, node, before, spot) {
+        return None;
+    }
+    Some(out.output(entry_place(before, machine.rules.moves(), spot.state)))
 }
 
 /// Works out what a state of a move above puts out on a node and then below it.
@@ -219,40 +330,6 @@ fn puts_nothing(machine: &Machine<'_>, node: Node<'_>, spot: Spot) -> bool
     }
 }
 
-/// The number of the set of each state with itself. It is told in `nothing` from then on.
-fn keep_nothing(
-    outputs: &mut HeldSets,
-    is_fixed: bool,
-    set: &mut Mat,
-    nothing: &mut Option<u32>,
-) -> Result<u32, RowFault>
-    requires set { set.old.size ≡ outputs.old.size }
-    requires known { IsNothing outputs.old nothing.old }
-    ensures known { IsNothing outputs.new nothing.new }
-    ensures set { set.new.size ≡ set.old.size }
-    ensures held { Extends outputs.old outputs.new }
-    ensures number { IfOk result (λ k. (k < length outputs.new.matrices)
-        × IsIdentity (set_at outputs.new k) × ((set_at outputs.new k).size ≡ outputs.new.size)) }
-    ensures grows { IfOk result (λ k.
-        ((k < length outputs.old.matrices) × (outputs.new ≡ outputs.old)) ⊎
-        ((k ≡ length outputs.old.matrices)
-        × (length outputs.new.matrices ≡ length outputs.old.matrices + 1))) }
-    ensures err { OnErr result ((outputs.new ≡ outputs.old) × IsNewNothing outputs.old) }
-    ensures fixed { is_fixed ≡ true → outputs.new ≡ outputs.old }
-    ensures full { IsErrOf result RowFault.TooManyOutputs → (is_fixed ≡ false)
-        × (length outputs.old.matrices ≡ 65536) }
-    ensures fresh { IsErrOf result RowFault.NewOutput → is_fixed ≡ true }
-    ensures memory { IsErrOf result RowFault.NoMemory → is_fixed ≡ false }
-{
-    if let Some(number) = *nothing {
-        return Ok(number);
-    }
-    put_identity(set);
-    let number = keep(outputs, is_fixed, set)?;
-    *nothing = Some(number);
-    Ok(number)
-}
-
 /// The number of the set that a body put together, which is held from now on, or else is held already where the sets are fixed.
 fn keep_open(outputs: &mut HeldSets, is_fixed: bool, sets: &mut OpenSets) -> Result<u32, RowFault>
     requires size { sets.old.out.size ≡ outputs.old.size }
@@ -285,6 +362,34 @@ fn keep_open(outputs: &mut HeldSets, is_fixed: bool, sets: &mut OpenSets) -> Res
     }
 }
 
+/// The number of the set of each state with itself, which is held from now on, or else is held already where the sets are fixed.
+fn keep_nothing(
+    outputs: &mut HeldSets,
+    is_fixed: bool,
+    sets: &mut OpenSets,
+) -> Result<u32, RowFault>
+    requires size { sets.old.out.size ≡ outputs.old.size }
+    requires links { AreLinked outputs.old sets.old.met }
+    ensures same { (m : Hedge) → IsBeside m outputs.new sets.old sets.new }
+    ensures held { Extends outputs.old outputs.new }
+    ensures number { IfOk result (λ k. (k < length outputs.new.matrices)
+        × IsIdentity (set_at outputs.new k) × ((set_at outputs.new k).size ≡ outputs.new.size)) }
+    ensures grows { IfOk result (λ k.
+        ((k < length outputs.old.matrices) × (outputs.new ≡ outputs.old)) ⊎
+        ((k ≡ length outputs.old.matrices)
+        × (length outputs.new.matrices ≡ length outputs.old.matrices + 1))) }
+    ensures err { OnErr result ((outputs.new ≡ outputs.old) × IsNewNothing outputs.old) }
+    ensures fixed { is_fixed ≡ true → outputs.new ≡ outputs.old }
+    ensures full { IsErrOf result RowFault.TooManyOutputs → (is_fixed ≡ false)
+        × (length outputs.old.matrices ≡ 65536) }
+    ensures fresh { IsErrOf result RowFault.NewOutput → is_fixed ≡ true }
+    ensures memory { IsErrOf result RowFault.NoMemory → is_fixed ≡ false }
+{
+    sets.restart();
+    let _out = sets.out();
+    keep_open(outputs, is_fixed, sets)
+}
+
 /// The number of an entry of a node.
 fn keep_entry(
     machine: &Machine<'_>,
@@ -293,26 +398,42 @@ fn keep_entry(
     work: &mut Work,
     node: Node<'_>,
     spot: Spot,
-    nothing: &mut Option<u32>,
+    out: &Room,
+    is_ready: &mut bool,
 ) -> Result<u32, RowFault>
     requires grounds { AreSomeGrounds machine.now outputs.old work.old node }
     requires ancestor { spot.ancestor < length (told machine.now.rules).ancestors.states }
     requires state { spot.state < move_count (told machine.now.rules) }
     requires above { spot.above < length (told machine.now.rules).ancestors.states }
-    requires known { IsNothing outputs.old nothing.old }
-    ensures known { IsNothing outputs.new nothing.new }
+    requires before { IfSome spot.before (λ q. (q < spot.ancestor)
+        × (output_at out.now.flags out.now.numbers.items
+        (q * move_count (told machine.now.rules) + spot.state) < length outputs.old.matrices)) }
+    requires room { (spot.ancestor + 1) * move_count (told machine.now.rules) ≤ out.now.entries }
     ensures work { (x : Triple) → AreGrounds x machine.now outputs.old work.old node.entry
         → IsWork x machine.now outputs.new work.new }
-    ensures named { work.new.named.items ≡ work.old.named.items }
+    ensures called { (x : Triple) → AreGrounds x machine.now outputs.old work.old node.entry
+        → (is_ready.old ≡ true
+        → AreCalledOn x outputs.old node.entry spot.above work.old.named.items)
+        → is_ready.new ≡ true
+        → AreCalledOn x outputs.old node.entry spot.above work.new.named.items }
     ensures held { Extends outputs.old outputs.new }
     ensures low { IfOk result (λ k. k < length outputs.new.matrices) }
     ensures grows { IfOk result (λ k.
         ((k < length outputs.old.matrices) × (outputs.new ≡ outputs.old)) ⊎
         ((k ≡ length outputs.old.matrices)
         × (length outputs.new.matrices ≡ length outputs.old.matrices + 1))) }
-    ensures entry { IfOk result (λ k. (x : Triple) → AreGrounds x machine.now outputs.old work.old node.entry → IsUnder x (letter_of node.entry.letter) spot.ancestor spot.above → AreCalledOn x outputs.old node.entry spot.above work.old.named.items
+    ensures entry { IfOk result (λ k. (x : Triple)
+        → AreGrounds x machine.now outputs.old work.old node.entry
+        → IsUnder x (letter_of node.entry.letter) spot.ancestor spot.above
+        → (is_ready.old ≡ true
+        → AreCalledOn x outputs.old node.entry spot.above work.old.named.items)
+        → IsBefore x (entries_by outputs.old.matrices node.entry.entries.now) node.entry outputs.old spot.above spot.state (output_at out.now.flags out.now.numbers.items) spot.before
         → IsEntryAt x (entries_by outputs.old.matrices node.entry.entries.now) node.entry (spot.ancestor * moves_of x + spot.state) (set_at outputs.new k)) }
-    ensures err { OnErr result ((outputs.new ≡ outputs.old) × ((x : Triple) → AreGrounds x machine.now outputs.old work.old node.entry → IsUnder x (letter_of node.entry.letter) spot.ancestor spot.above → AreCalledOn x outputs.old node.entry spot.above work.old.named.items
+    ensures err { OnErr result ((outputs.new ≡ outputs.old) × ((x : Triple)
+        → AreGrounds x machine.now outputs.old work.old node.entry
+        → IsUnder x (letter_of node.entry.letter) spot.ancestor spot.above
+        → (is_ready.old ≡ true
+        → AreCalledOn x outputs.old node.entry spot.above work.old.named.items)
         → IsNewEntry x (entries_by outputs.old.matrices node.entry.entries.now) node.entry outputs.old (spot.ancestor * moves_of x + spot.state))) }
     ensures fixed { is_fixed ≡ true → outputs.new ≡ outputs.old }
     ensures full { IsErrOf result RowFault.TooManyOutputs → (is_fixed ≡ false)
@@ -320,12 +441,16 @@ fn keep_entry(
     ensures fresh { IsErrOf result RowFault.NewOutput → is_fixed ≡ true }
     ensures memory { IsErrOf result RowFault.NoMemory → is_fixed ≡ false }
 {
+    if let Some(number) = as_before(machine, &mut work.known, node, spot, out) {
+        return Ok(number);
+    }
     if puts_nothing(machine, node, spot) {
-        return keep_nothing(outputs, is_fixed, &mut work.set, nothing);
+        return keep_nothing(outputs, is_fixed, &mut work.sets);
     }
     match passed_on(machine, outputs, node, spot) {
         Some(number) => Ok(number),
         None => {
+            ready_named(machine, outputs, work, node, spot.above, is_ready);
             put_entry_of(machine, outputs, work, node, spot);
             keep_open(outputs, is_fixed, &mut work.sets)
         }
@@ -345,6 +470,9 @@ fn put_row(
     requires grounds { AreSomeGrounds machine.now outputs.old work.old node }
     requires ancestor { ancestor < length (told machine.now.rules).ancestors.states }
     requires room { (ancestor + 1) * move_count (told machine.now.rules) ≤ out.old.entries }
+    requires before { (x : Triple) × (begun : Held) × AreGrounds x machine.now outputs.old work.old node
+        × Comes x (entries_by outputs.old.matrices node.entries.now) node begun outputs.old
+        (output_at out.old.flags out.old.numbers.items) (ancestor * moves_of x) }
     ensures work { (x : Triple) → AreGrounds x machine.now outputs.old work.old node.entry
         → IsWork x machine.now outputs.new work.new }
     ensures beside { IsRoomBeside out.old out.new }
@@ -364,16 +492,26 @@ fn put_row(
     ensures memory { IsErrOf result RowFault.NoMemory → is_fixed ≡ false }
 {
     let above = state_below(&machine.rules, node.letter, ancestor);
-    put_named_on(machine, outputs, work, node, above);
+    let before = before_of(&machine.rules, node.letter, ancestor, above);
     let moves = machine.rules.moves();
-    let mut nothing = None;
+    let mut is_ready = false;
     for state in 0..moves {
         let spot = Spot {
             ancestor,
             above,
+            before,
             state,
         };
-        let number = keep_entry(machine, outputs, is_fixed, work, node, spot, &mut nothing)?;
+        let number = keep_entry(
+            machine,
+            outputs,
+            is_fixed,
+            work,
+            node,
+            spot,
+            out,
+            &mut is_ready,
+        )?;
         out.set_output(entry_place(ancestor, moves, state), number);
     }
     Ok(())

@@ -5,31 +5,21 @@ ghost use Rattle.tc_mat.specs.Held.{AreDifferent, AreMatrices, IsHeld};
 ghost use Rattle.tc_beh.specs.Remembered.{IsProduct};
 
 use crate::guesses::Guesses;
-use crate::places::{PLACES, place_of};
+use crate::products::Products;
 use std::alloc::Global;
 use std::marker::Model;
 use tc_base::NoMemory;
 use tc_mat::{Mat, MatId, Pool, PoolFault};
 
-/// Two held sets, and the one that leads by the first and then by the second, by their numbers.
-#[derive(Clone, Copy)]
-struct Product {
-    first: u32,
-    second: u32,
-    product: u32,
-}
-
-/// The sets of pairs that stand in rows, each held once and known by its number, with some of their products. A product is
-/// forgotten where another one comes to its place.
+/// The sets of pairs that stand in rows, each held once and known by its number, with some of their products.
 #[derive(Drop)]
 pub(crate) struct HeldSets {
     pool: Pool,
-    products: Vec<Option<Product>>,
+    products: Products,
     guesses: Guesses,
 }
 
 impl Model for HeldSets {
-    ghost use Rattle.std.specs.Prelude.{◌≡◌, length};
     ghost use Rattle.tc_mat.specs.Held.{Held};
     ghost use Rattle.tc_beh.specs.Remembered.{AreRemembered};
 
@@ -37,7 +27,7 @@ impl Model for HeldSets {
 
     ghost view = { λ s. s.pool };
 
-    ghost invariant = { λ s. (length s.products.items ≡ 4096) × AreRemembered s.pool s.products.items };
+    ghost invariant = { λ s. AreRemembered s.pool s.products };
 }
 
 impl HeldSets {
@@ -49,7 +39,7 @@ impl HeldSets {
     pub(crate) fn of(alloc: Global, pool: Pool) -> Result<HeldSets, NoMemory>
         ensures { IfOk result (λ s. s ≡ pool) }
     {
-        let products = vec![in alloc; None; PLACES]?;
+        let products = Products::none(alloc)?;
         let guesses = Guesses::of(alloc, &pool)?;
         Ok(HeldSets {
             pool,
@@ -118,12 +108,7 @@ impl HeldSets {
     pub(crate) fn product(&self, first: u32, second: u32) -> Option<u32>
         ensures { IfSome result (λ k. IsProduct self.now first second k) }
     {
-        let known = self.products[place_of(first, second)]?;
-        if known.first == first && known.second == second {
-            Some(known.product)
-        } else {
-            None
-        }
+        self.products.get(first, second)
     }
 
     /// Remembers the product of two sets.
@@ -131,10 +116,6 @@ impl HeldSets {
         requires { IsProduct self.old first second product }
         ensures { self.new ≡ self.old }
     {
-        self.products[place_of(first, second)] = Some(Product {
-            first,
-            second,
-            product,
-        });
+        self.products.keep(first, second, product);
     }
 }

@@ -29,10 +29,13 @@ mod open_sets;
 mod outputs;
 mod patterns;
 mod places;
+mod products;
 mod rooms;
 mod root;
 mod rows;
+mod set_list;
 mod sets;
+mod symbols;
 mod templates;
 mod wrapping;
 

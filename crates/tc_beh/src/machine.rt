@@ -11,6 +11,7 @@ ghost use Rattle.tc_beh.specs.Machines.{IsMachineCause, KeepsLimits};
 ghost use Rattle.tc_beh.specs.Stands.{IsRulesIn, AreRules};
 
 use crate::calls::{TOO_MANY, callees_first, calls_of, depth_of_sheet};
+use crate::symbols::Symbols;
 use std::alloc::Global;
 use tc_alpha::Alphabet;
 use tc_base::NoMemory;
@@ -65,7 +66,7 @@ pub struct Machine<'b> {
     pub(crate) input: Hedge<'b>,
     pub(crate) output: Hedge<'b>,
     pub(crate) rules: Rules<'b>,
-    pub(crate) alphabet: Alphabet,
+    pub(crate) alphabet: Symbols<'b>,
     /// The numbers of the bodies of named templates, each after those that it calls.
     pub(crate) order: Vec<usize>,
     /// How many elements stand open at most in the text of a body.
@@ -130,6 +131,9 @@ impl<'b> Machine<'b> {
     {
         let order = order_of(alloc, &rules)?;
         let depth = depth_of_sheet(rules.sheet());
+        let Ok(alphabet) = Symbols::of(alloc, alphabet, rules.sheet()) else {
+            return Err(MachineFault::NoMemory);
+        };
         Ok(Machine {
             input,
             output,
@@ -151,7 +155,7 @@ impl<'b> Machine<'b> {
     pub fn alphabet(&self) -> &Alphabet
         ensures { result.now ≡ self.now.alphabet }
     {
-        &self.alphabet
+        self.alphabet.alphabet()
     }
 
     /// How long the parts of rows are.
@@ -160,7 +164,7 @@ impl<'b> Machine<'b> {
         ensures { (x : Triple) → IsMachineOf x self.now → IsShapeOf x result }
     {
         Shape {
-            symbols: self.alphabet.count(),
+            symbols: self.alphabet.alphabet().count(),
             inputs: self.input.auto().states(),
             outputs: self.output.auto().states(),
             patterns: self.input.auto().patterns(),

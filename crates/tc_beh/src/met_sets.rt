@@ -11,14 +11,15 @@ ghost use Rattle.tc_beh.specs.Remembered.{IsProduct};
 
 use crate::held_sets::HeldSets;
 use crate::links::Links;
-use crate::outputs::keep;
 use crate::places::{PLACES, place_of};
+use crate::products::Products;
+use crate::set_list::SetList;
 use std::alloc::Global;
 use std::marker::Model;
 use tc_alpha::Sym;
 use tc_base::NoMemory;
 use tc_hedge::Hedge;
-use tc_mat::{Mat, MatId, Pool};
+use tc_mat::{Mat, MatId};
 
 /// How many sets are met at most.
 const MOST: u32 = 8192;
@@ -41,12 +42,12 @@ struct Element {
 /// others are worked out each time. An element is forgotten where another one comes to its place.
 #[derive(Drop)]
 pub(crate) struct MetSets {
-    sets: HeldSets,
+    sets: SetList,
+    products: Products,
     elements: Vec<Option<Element>>,
     /// Which of them stand in rows.
     links: Links,
     text: u32,
-    most: u32,
 }
 
 impl Model for MetSets {
@@ -54,26 +55,46 @@ impl Model for MetSets {
     ghost use Rattle.tc_mat.specs.Matrix.{IsIdentity};
     ghost use Rattle.tc_beh.specs.Held.{set_at};
     ghost use Rattle.tc_beh.specs.Opening.{Met};
+    ghost use Rattle.tc_beh.specs.Remembered.{AreRemembered};
 
     ghost Value = { Met };
 
     ghost view = { λ s. record { text = set_at s.sets s.text; held = s.sets; elements = s.elements.items; links = s.links } };
 
     ghost invariant = { λ s. (length s.elements.items ≡ 4096) × (s.text < length s.sets.matrices)
-        × (0 < length s.sets.matrices) × IsIdentity (set_at s.sets 0) };
+        × (0 < length s.sets.matrices) × IsIdentity (set_at s.sets 0) × AreRemembered s.sets s.products };
 }
 
-/// How many sets of so many words there is room for.
+/// How many sets of so many words there is room for, at least those of nothing and of a text.
 fn room_for(words: usize) -> u32 {
     if words == 0 {
         return MOST;
     }
     let room = MOST_WORDS / words;
-    if room < MOST as usize {
+    if room < 2 {
+        2
+    } else if room < MOST as usize {
         room as u32
     } else {
         MOST
     }
+}
+
+/// The sets of each state with itself and of a text, and the number of the last.
+fn first_sets(alloc: Global, text: &Mat) -> Result<(SetList, u32), NoMemory>
+    ensures nothing { IfOk result (λ s. (0 < length s.0.matrices) × IsIdentity (set_at s.0 0)) }
+    ensures text { IfOk result (λ s. (s.1 < length s.0.matrices) × (set_at s.0 s.1 ≡ text.now)) }
+    ensures size { IfOk result (λ s. s.0.size ≡ text.now.size) }
+{
+    let mut sets = SetList::new(alloc, text.size(), room_for(text.words().len()))?;
+    let nothing = Mat::identity(alloc, text.size())?;
+    let Some(_nothing) = sets.number_of(&nothing) else {
+        return Err(NoMemory);
+    };
+    let Some(number) = sets.number_of(text) else {
+        return Err(NoMemory);
+    };
+    Ok((sets, number))
 }
 
 impl MetSets {
@@ -88,23 +109,16 @@ impl MetSets {
         ensures text { IfOk result (λ s. s.text ≡ text.now) }
         ensures size { IfOk result (λ s. s.held.size ≡ text.now.size) }
     {
-        let mut sets = HeldSets::of(alloc, Pool::new(alloc, text.size()))?;
-        let nothing = Mat::identity(alloc, text.size())?;
-        let Ok(_nothing) = keep(&mut sets, false, &nothing) else {
-            return Err(NoMemory);
-        };
-        let most = room_for(text.words().len());
-        let Ok(text) = keep(&mut sets, false, text) else {
-            return Err(NoMemory);
-        };
+        let first = first_sets(alloc, text)?;
+        let products = Products::none(alloc)?;
         let elements = vec![in alloc; None; PLACES]?;
         let links = Links::none(alloc)?;
         Ok(MetSets {
-            sets,
+            sets: first.0,
+            products,
             elements,
             links,
-            text,
-            most,
+            text: first.1,
         })
     }
 
@@ -132,7 +146,7 @@ impl MetSets {
         ensures set { result.now ≡ set_at self.now.held number }
         ensures size { result.now.size ≡ self.now.held.size }
     {
-        self.sets.get(MatId(number))
+        self.sets.get(number)
     }
 
     /// Leaves the product of a set and another one: that of a number, or else these words.
@@ -158,11 +172,7 @@ impl MetSets {
         ensures number { IfSome result (λ k. (k < length self.new.held.matrices)
             × (set_at self.new.held k ≡ set.now)) }
     {
-        let is_full = self.sets.len() >= self.most;
-        match keep(&mut self.sets, is_full, set) {
-            Ok(number) => Some(number),
-            Err(_) => None,
-        }
+        self.sets.number_of(set)
     }
 
     /// The same of a set that stands in rows, by the number that it has there.
@@ -221,7 +231,7 @@ impl MetSets {
         if second == NOTHING {
             return Some(first);
         }
-        self.sets.product(first, second)
+        self.products.get(first, second)
     }
 
     /// Remembers the product of two sets, if all three were met.
@@ -236,7 +246,7 @@ impl MetSets {
         ensures { self.new ≡ self.old }
     {
         if let (Some(first), Some(second), Some(product)) = (first, second, product) {
-            self.sets.remember(first, second, product);
+            self.products.keep(first, second, product);
         }
     }
 

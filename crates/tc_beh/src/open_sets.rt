@@ -180,6 +180,8 @@ impl OpenSets {
 
     /// Begins anew with the set of each state with itself.
     pub(crate) fn restart(&mut self)
+        ensures size { self.new.out.size ≡ self.old.out.size }
+        ensures met { self.new.met ≡ self.old.met }
         ensures same { (m : Hedge) (h : Held) → IsBeside m h self.old self.new }
         ensures out { IsIdentity self.new.out }
     {

@@ -98,6 +98,14 @@ impl Room {
         &self.numbers.as_slice()[start..end]
     }
 
+    /// The number of an output.
+    pub(crate) fn output(&self, place: usize) -> u32
+        requires { place < self.now.entries }
+        ensures { result ≡ output_at self.now.flags self.now.numbers.items place }
+    {
+        self.numbers[HEADS + self.flags + place]
+    }
+
     pub(crate) fn looks(&self) -> &[u32]
         ensures value { result.now ≡ looks_in self.now.flags self.now.entries self.now.numbers.items }
         ensures count { 2 + self.now.flags + self.now.entries + length result.now ≡ length self.now.numbers.items }

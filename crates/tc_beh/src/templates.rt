@@ -1,5 +1,5 @@
 // What is to be instantiated on a node (XSLT 1.0, 5), and what it puts out.
-ghost use Rattle.std.specs.Prelude.{◌≡◌, ◌≤◌, ◌<◌, ◌+◌, ℕ, List, length, All, option_map, Option, IfSome};
+ghost use Rattle.std.specs.Prelude.{◌≡◌, ◌≤◌, ◌<◌, ◌+◌, ℕ, List, length, All, option_map, Option, IfSome, true};
 ghost use Rattle.tc_model.specs.Letters as letters;
 ghost use Rattle.tc_model.specs.Sheets.{CallFreeBody};
 ghost use Rattle.tc_rules.specs.Asked.{found as found_of};
@@ -16,7 +16,7 @@ ghost use Rattle.tc_beh.specs.Putting.{Extends};
 ghost use Rattle.tc_beh.specs.Opening.{IsOpenAt, IsBeside};
 ghost use Rattle.tc_beh.specs.Places.{IsPlace, IsPlaceIn, kind_of, below_of, called_by};
 ghost use Rattle.tc_beh.specs.Stands.{IsRulesIn, AreRules};
-ghost use Rattle.tc_beh.specs.Templates.{IsMeantAt, IsTemplate, IsPartTemplate, depth_of, depth_of_sheet, built_in_on, AreCalled};
+ghost use Rattle.tc_beh.specs.Templates.{IsMeantAt, IsTemplate, IsPartTemplate, body_meant, depth_of, depth_of_sheet, built_in_on, AreCalled};
 
 use crate::above::Letter;
 use crate::bodies::{At, Place, all_children, put_body, put_selected, put_text_if};
@@ -73,6 +73,47 @@ pub(crate) fn template_at<'b>(
         Job::Mode(mode) => {
             let found = known.rule_for(rules, mode, ancestor, letter.kind, letter.marks);
             template_of(rules, mode, found)
+        }
+    }
+}
+
+/// True only where the same was found.
+fn is_same(one: Found, other: Found) -> bool
+    ensures { result ≡ true → one ≡ other }
+{
+    match (one, other) {
+        (Found::BuiltIn, Found::BuiltIn) => true,
+        (Found::Rule(first), Found::Rule(second)) => first == second,
+        _ => false,
+    }
+}
+
+/// True only where the same is to be done on a node that a state of a move hits, above the one and above the other ancestor state.
+pub(crate) fn are_alike(
+    rules: &Rules<'_>,
+    known: &mut KnownRules,
+    letter: Letter,
+    first: u32,
+    second: u32,
+    state: u32,
+) -> bool
+    requires first { first < length (told rules.now).ancestors.states }
+    requires second { second < length (told rules.now).ancestors.states }
+    requires state { state < move_count (told rules.now) }
+    requires letter { (x : Triple) × IsRulesIn x rules.now }
+    ensures known { (x : Triple) → IsRulesIn x rules.now
+        → AreKnown x.symbols x.rules known.old → AreKnown x.symbols x.rules known.new }
+    ensures meant { result ≡ true → (x : Triple) (g : Going) → IsRulesIn x rules.now
+        → letters.IsLetter x.symbols (predicates x) (letter_of letter)
+        → AreKnown x.symbols x.rules known.old → IsMoveAt x.rules state g
+        → body_meant x g first (letter_of letter) ≡ body_meant x g second (letter_of letter) }
+{
+    match rules.mode_of(state) {
+        Job::Each(_) => true,
+        Job::Mode(mode) => {
+            let one = known.rule_for(rules, mode, first, letter.kind, letter.marks);
+            let other = known.rule_for(rules, mode, second, letter.kind, letter.marks);
+            is_same(one, other)
         }
     }
 }

@@ -32,6 +32,23 @@ put_row-requires-clause-grounds c =
     let so_far = c.loop-ancestor.invariant in
     (x, grounds_kept x c.args.machine.now c.args.outputs.now c.loop-ancestor.outputs so_far.held c.args.work.now c.args.node ok c.loop-ancestor.work (so_far.work x ok))
 
+pub put_row-requires-clause-before : goal.put_row-requires-clause-before
+put_row-requires-clause-before c =
+    let (x, ok) = c.requires.grounds in
+    let m = c.args.machine.now in
+    let n = c.args.node in
+    let a = c.args.outputs.now in
+    let b = c.loop-ancestor.outputs in
+    let us = c.loop-ancestor.out.numbers.items in
+    let so_far = c.loop-ancestor.invariant in
+    let es = entries_by a.matrices n.entries.now in
+    let here = subst (λ f. Comes x es n a b (output_at f us) (c.loop-ancestor.ancestor * moves x)) (sym so_far.beside.flags) (so_far.comes x ok) in (
+      x,
+      a,
+      grounds_kept x m a b so_far.held c.args.work.now n ok c.loop-ancestor.work (so_far.work x ok),
+      subst (λ l. Comes x l n a b (output_at c.loop-ancestor.out.flags us) (c.loop-ancestor.ancestor * moves x)) (sym (read_kept x m a b so_far.held c.args.work.now n ok)) here,
+    )
+
 pub returns-in_err-put_row-clause-work : goal.returns-in_err-put_row-clause-work
 returns-in_err-put_row-clause-work c = λ x ok.
     let so_far = c.loop-ancestor.invariant in

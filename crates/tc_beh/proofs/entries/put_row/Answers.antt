@@ -10,22 +10,47 @@ use Rattle.tc_beh.specs.Held.{set_at}
 use Rattle.tc_beh.specs.Rooms.{output_at}
 use Rattle.tc_beh.proofs.Looking.{moves_told}
 use Rattle.tc_beh.proofs.Holding.{extends_self, extends_then, on_err}
-use Rattle.tc_beh.proofs.Coming.{grounds_kept, read_kept, called_kept, row_within, comes_step, comes_partly, comes_same}
+use Rattle.tc_beh.specs.Places.{entries_by}
+use Rattle.tc_beh.proofs.Before.{before_row}
+use Rattle.tc_beh.proofs.Passing.{if_some_map}
+use Rattle.tc_beh.proofs.Coming.{grounds_kept, read_kept, called_kept, called_back, row_within, comes_step, comes_partly, comes_same}
 use Rattle.tc_beh.proofs.Steps.{not_done}
 use Rattle.tc_beh.proofs.Refusing.{no_error, same_error}
 use Rattle.tc_beh.proofs.entries.put_row.Goals as goal
 
 pub loop-state-init : goal.loop-state-init
 loop-state-init c = record {
-  work = c.put_named_on.ensures.work;
-  called = c.put_named_on.ensures.called;
-  known = tt;
+  work = λ x ok. ok.work;
+  called = λ x ok e. absurd (cc);
   beside = record { flags = refl; entries = refl; count = refl };
   others = λ k h. refl;
   held = extends_self c.args.outputs.now;
   comes = λ x es begun ok e so. comes_same x es c.args.node begun c.args.outputs.now (output_at c.args.out.now.flags c.args.out.now.numbers.items) (c.args.ancestor * moves x) (c.args.ancestor * moves x + 0) (omega arith) so;
   fixed = λ e. refl;
 }
+
+pub keep_entry-requires-clause-room : goal.keep_entry-requires-clause-room
+keep_entry-requires-clause-room c = let same = c.loop-state.invariant.beside.entries in let room = c.requires.room in omega (arith, same, room)
+
+pub keep_entry-requires-clause-before : goal.keep_entry-requires-clause-before
+keep_entry-requires-clause-before c =
+    let (x, begun, ok, so) = c.requires.before in
+    let m = c.args.machine.now in
+    let q = c.args.ancestor in
+    let k = c.loop-state.state in
+    let b = c.loop-state.outputs in
+    let us = c.loop-state.out.numbers.items in
+    let rules = ok.machine.parts.are_rules in
+    let all : move_count (told m.rules) ≡ moves x = ap move_count rules.told in
+    let count = c.moves-moves.ensures x.symbols rules.rules in
+    let within : k < moves x = let t = c.loop-state-test.true in omega (arith, t, count, all) in
+    let so_now = c.loop-state.invariant.comes x (entries_by c.args.outputs.now.matrices c.args.node.entries.now) begun ok refl so in
+    if_some_map c.before_of-before.result _ _ (λ p h. (
+      h.0,
+      subst (λ n. output_at c.loop-state.out.flags us (p * n + k) < length b.matrices) (sym all)
+          (subst (λ f. output_at f us (p * moves x + k) < length b.matrices) (sym c.loop-state.invariant.beside.flags)
+          (so_now.grows.low (p * moves x + k) (let l = before_row p q k (moves x) h.0 within in omega (arith, l)))),
+    )) c.before_of-before.ensures
 
 pub keep_entry-requires-clause-grounds : goal.keep_entry-requires-clause-grounds
 keep_entry-requires-clause-grounds c =
@@ -58,7 +83,7 @@ returns-in_err-number-clause-partly c = on_err c.from_residual.result _ (λ x es
     let low : q < ancestors x = subst (λ (t : RulesView). q < length t.ancestors.states) rules.told c.requires.ancestor in
     let under = c.state_below-above.ensures.under x rules ok.node.letter in
     let err = c.in_err-number.ensures.err in
-    let fresh = err.1 x now under (called_kept x m a b so_far.held w n ok c.state_below-above.result c.loop-state.work.named.items (so_far.called x ok)) in
+    let fresh = err.1 x now under (λ ready. called_kept x m a b so_far.held w n ok c.state_below-above.result c.loop-state.work.named.items (so_far.called x ok ready)) in
     comes_partly x es n begun b c.keep_entry.new.outputs (output_at c.args.out.now.flags c.loop-state.out.numbers.items) (q * moves x + k) (so_far.comes x es begun ok e so) (entry_index x q k low within) err.0
     (subst (λ l. IsNewEntry x l n b (q * moves x + k)) (read_kept x m a b so_far.held w n ok ∙ sym e) fresh))
 
@@ -82,8 +107,10 @@ loop-state-preserved c =
     let inside : c.entry_place.result < c.args.out.now.entries = subst (λ j. j < c.args.out.now.entries) (sym c.entry_place.ensures) (row_within q k c.moves-moves.result (move_count (told m.rules)) c.args.out.now.entries many c.loop-state-test.true c.requires.room) in
     record {
       work = λ x ok. c.keep_entry.ensures.work x (grounds_kept x m a b so_far.held w n ok c.loop-state.work (so_far.work x ok));
-      called = λ x ok. subst (λ (ms : List Matrix). AreCalledOn x a n c.state_below-above.result ms) (sym c.keep_entry.ensures.named) (so_far.called x ok);
-      known = c.keep_entry.ensures.known;
+      called = λ x ok ready.
+          let now = grounds_kept x m a b so_far.held w n ok c.loop-state.work (so_far.work x ok) in
+          called_back x m a b so_far.held w n ok c.state_below-above.result c.keep_entry.new.work.named.items
+          (c.keep_entry.ensures.called x now (λ was. called_kept x m a b so_far.held w n ok c.state_below-above.result c.loop-state.work.named.items (so_far.called x ok was)) ready);
       beside = record { flags = put.beside.flags ∙ flags; entries = put.beside.entries ∙ so_far.beside.entries; count = put.beside.count ∙ so_far.beside.count };
       others = λ i h. put.others i (λ e. elim h [ inl l ↦ absurd (omega (arith, e, l, flags)) | inr l ↦ absurd (omega (arith, e, l, flags, inside)) ]) ∙ so_far.others i h;
       held = extends_then a b new so_far.held more;
@@ -96,7 +123,16 @@ loop-state-preserved c =
           let before = output_at c.args.out.now.flags c.loop-state.out.numbers.items in
           let after = output_at c.args.out.now.flags c.set_output.new.self.numbers.items in
           let under = c.state_below-above.ensures.under x rules ok.node.letter in
-          let made = c.in_ok-number.ensures.entry x now under (called_kept x m a b so_far.held w n ok c.state_below-above.result c.loop-state.work.named.items (so_far.called x ok)) in
+          let within : k < moves x = let t = c.loop-state-test.true in omega (arith, t, count) in
+          let low : q < ancestors x = subst (λ (t : RulesView). q < length t.ancestors.states) rules.told c.requires.ancestor in
+          let so_now = so_far.comes x es begun ok e so in
+          let flag = output_at c.loop-state.out.flags c.loop-state.out.numbers.items in
+          let earlier =
+          if_some_map c.before_of-before.result _ _ (λ p h.
+          let there : p * moves x + k < q * moves x + k = let l = before_row p q k (moves x) h.0 within in omega (arith, l) in
+          let right = subst (λ f. IsEntryAt x es n (p * moves x + k) (set_at b (output_at f c.loop-state.out.numbers.items (p * moves x + k)))) (sym flags) (so_now.right (p * moves x + k) there) in
+          (h.1 x rules ok.node.letter, let t = h.0 in omega (arith, t, low), subst (λ l. IsEntryAt x l n (p * moves x + k) (set_at b (flag (p * moves x + k)))) (e ∙ sym (read_kept x m a b so_far.held w n ok)) right)) c.before_of-before.ensures in
+          let made = c.in_ok-number.ensures.entry x now under (λ ready. called_kept x m a b so_far.held w n ok c.state_below-above.result c.loop-state.work.named.items (so_far.called x ok ready)) earlier in
           let right : IsEntryAt x es n i (set_at new number) = subst (λ l. IsEntryAt x l n i (set_at new number)) (read_kept x m a b so_far.held w n ok ∙ sym e) made in
           let stays : (p : ℕ) → p < i → after p ≡ before p = λ p l. put.others (2 + c.args.out.now.flags + p) (λ f. absurd (omega (arith, f, l, flags, place))) in
           let at : 2 + c.loop-state.out.flags + c.entry_place.result ≡ 2 + c.args.out.now.flags + i = omega (arith, flags, place) in

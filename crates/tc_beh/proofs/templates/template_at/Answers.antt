@@ -27,21 +27,8 @@ use Rattle.tc_rules.specs.declared.walk.Job.{Job}
 use Rattle.tc_rules.specs.declared.rules.Rules.{Rules}
 use Rattle.tc_rows.specs.Triples.{Triple}
 use Rattle.tc_beh.specs.Stands.{IsRulesIn}
-use Rattle.tc_beh.proofs.Hitting.{of_move, some_move, state_told, task_told, sheet_modes}
+use Rattle.tc_beh.proofs.Hitting.{is_job, told_task}
 use Rattle.tc_beh.proofs.templates.template_at.Goals as goal
-
--- the job of a state of a move
-module _ (x : Triple) (r : Rules) (is : IsRulesIn x r) (k : ℕ) where
-  is_job : (j : Job) → k < move_count (told r) → ((symbols : List Mention) (b : PathUse) (s : State) → IsRulesOf symbols r → IsStateOf (told r) k b s → IsJob (told r).sheet j) → IsJob (told r).sheet j
-  is_job j low job =
-      let (g, at) = some_move x r is k low in
-      job x.symbols (of_move g.path at.mode) g.state is.rules (state_told x r is k (of_move g.path at.mode) g.state at.state)
-
-  told_task : (g : Going) (at : IsMoveAt x.rules k g) (j : Job) → ((symbols : List Mention) (b : PathUse) (s : State) → IsRulesOf symbols r → IsStateOf (told r) k b s → b.mode ≡ Some (mode_of (told r).sheet.modes j))
-      → IsTaskOf (sheet x) (mode_of (sheet x).modes j) g.task
-  told_task g at j mode =
-      let b : PathUse = of_move g.path at.mode in
-      sheet_modes x r is j g.task (task_told x r is at.mode (mode_of (told r).sheet.modes j) g.task (mode x.symbols b g.state is.rules (state_told x r is k b g.state at.state)) at.task)
 
 pub returns-in-Each-clause-part : goal.returns-in-Each-clause-part
 returns-in-Each-clause-part c =

@@ -9,10 +9,10 @@ use Rattle.tc_beh.proofs.Steps.{no_value}
 use Rattle.tc_beh.proofs.alike.Alike.of.Goals as goal
 
 pub firsts_of-requires-clause-input : goal.firsts_of-requires-clause-input
-firsts_of-requires-clause-input c = let (x, is) = c.requires in is.parts.contents.counted ∙ ap symbol_count (sym is.parts.same_symbols)
+firsts_of-requires-clause-input c = let (x, is) = c.requires in is.parts.contents.counted ∙ ap symbol_count (sym (c.alphabet.ensures ∙ is.parts.same_symbols))
 
 pub firsts_of-requires-clause-output : goal.firsts_of-requires-clause-output
-firsts_of-requires-clause-output c = let (x, is) = c.requires in is.parts.states.counted ∙ ap symbol_count (sym is.parts.same_symbols)
+firsts_of-requires-clause-output c = let (x, is) = c.requires in is.parts.states.counted ∙ ap symbol_count (sym (c.alphabet.ensures ∙ is.parts.same_symbols))
 
 pub returns : goal.returns
 returns c = λ x is.
@@ -20,9 +20,9 @@ returns c = λ x is.
     let asked = asked_tests c.as_slice.result.now in
     let are : AreAsked (node_tests (sheet x)) asked =
     subst (λ ns. AreAsked ns asked) used (subst (λ ks. AreAsked (node_tests (see.sheet c.sheet.result.now)) (asked_tests ks)) (sym c.as_slice.ensures.keys) c.in_ok-asked.ensures) in
-    let firsts = c.in_ok-firsts.ensures.firsts x (record { contents = is.parts.contents; states = is.parts.states }) is.parts.same_symbols in
+    let firsts = c.in_ok-firsts.ensures.firsts x (record { contents = is.parts.contents; states = is.parts.states }) (c.alphabet.ensures ∙ is.parts.same_symbols) in
     record {
-      count = c.in_ok-firsts.ensures.count ∙ ap symbol_count is.parts.same_symbols;
+      count = c.in_ok-firsts.ensures.count ∙ ap symbol_count (c.alphabet.ensures ∙ is.parts.same_symbols);
       each = λ a first at. first_alike x asked a first are (firsts a first at);
     }
 

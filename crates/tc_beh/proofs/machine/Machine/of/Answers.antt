@@ -1,5 +1,6 @@
-use Rattle.std.proofs.Common.{◌≡◌, max, ap, ◌∙◌, arith}
+use Rattle.std.proofs.Common.{◌≡◌, List, max, ap, ◌∙◌, sym, subst, arith}
 use Rattle.tc_model.specs.Sheets.{Sheet}
+use Rattle.tc_model.specs.Symbols.{Mention}
 use Rattle.tc_rows.specs.Triples.{sheet}
 use Rattle.tc_beh.specs.Heights.{deepest, deepest_rule}
 use Rattle.tc_beh.proofs.Sizes.{handed_on, sheet_is}
@@ -25,7 +26,7 @@ returns-clause-stands c = λ x p.
     c.depth_of_sheet-depth.ensures ∙ ap (λ (s : Sheet). max (deepest_rule s.rules) (deepest s.named)) (sheet_is x c.args.rules c.sheet.result.now p.are_rules c.sheet.ensures) in
     let shallow = c.in_ok-order.ensures.shallow x p.are_rules in
     record {
-      parts = p;
+      parts = subst (λ (symbols : List Mention). AreParts x c.args.input c.args.output c.args.rules symbols) (sym c.in-Ok.ensures) p;
       limits = c.in_ok-order.ensures.within x p.are_rules;
       order = c.in_ok-order.ensures.order x p.are_rules;
       depth = depth;

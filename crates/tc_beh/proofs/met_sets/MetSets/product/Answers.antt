@@ -1,6 +1,7 @@
 use Rattle.std.proofs.Common.{◌<◌, ℕ, Option, length, subst, sym}
 use Rattle.tc_beh.specs.Opening.{Met, IsLow}
 use Rattle.tc_beh.specs.Remembered.{IsProduct}
+use Rattle.tc_beh.proofs.Passing.{if_some_map}
 use Rattle.tc_beh.proofs.OpenLaws.{nothing_first, nothing_second}
 use Rattle.tc_beh.proofs.met_sets.MetSets.product.Goals as goal
 
@@ -31,3 +32,9 @@ returns-then-second-eq-NOTHING c =
       subst (λ (v : Met). IsProduct v.held i j i) c.self.view_is
           (subst (λ n. IsProduct h i n i) (sym c.if-second-eq-NOTHING.true) (nothing_second h c.len-met.ensures.matrices c.self.invariant.2 c.self.invariant.3 i low)),
     )
+
+pub returns : goal.returns
+returns c =
+    let i = c.in-Some-Some.first in
+    let j = c.in-Some-Some.second in
+    if_some_map c.get.result _ _ (λ k known. (i, j, c.in-Some-Some.is-0, c.in-Some-Some.is-1, subst (λ (v : Met). IsProduct v.held i j k) c.self.view_is (known c.self.inside.sets c.self.invariant.4))) c.get.ensures

@@ -1,12 +1,9 @@
-use Rattle.std.proofs.Common.{◌≡◌, ◌∙◌, Option, Some, None, IfSome, ℕ, get_or, subst, sym, ap}
+use Rattle.std.proofs.Common.{◌≡◌, ◌∙◌, Option, ℕ, get_or, subst, sym, ap}
 use Rattle.std.proofs.lemmas.List.{get_or_default}
 use Rattle.tc_beh.specs.Held.{set_at}
 use Rattle.tc_beh.specs.Opening.{Open, AreLinked, set_or, set_of, no_set}
+use Rattle.tc_beh.proofs.Passing.{if_some_map}
 use Rattle.tc_beh.proofs.open_sets.OpenSets.held.Goals as goal
-
-if_some_map : (o : Option ℕ) (P Q : ℕ → Type 0) → ((k : ℕ) → P k → Q k) → IfSome o P → IfSome o Q
-if_some_map (Some k) P Q f p = f k p
-if_some_map None P Q f p = tt
 
 pub returns : goal.returns
 returns c = if_some_map c.held_of.result _ _ (λ k known h linked.
