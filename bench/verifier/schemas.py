@@ -9,11 +9,13 @@ A name class is ("name", uri, local), ("ns", uri, except), ("any", except), wher
 import re
 from typing import NamedTuple
 
+from names import PREFIXED
+
 TOKEN = re.compile(
-    r"""\s+|\#[^\n\r]*
+    rf"""\s+|\#[^\n\r]*
     |(?P<literal>"[^"\n]*"|'[^'\n]*')
-    |(?P<name>\\?[^\W\d][\w.\-]*(?::(?:[^\W\d][\w.\-]*|\*))?)
-    |(?P<mark>\|=|&=|[={}()|&,?*+\-])""",
+    |(?P<name>\\?{PREFIXED})
+    |(?P<mark>\|=|&=|[={{}}()|&,?*+\-])""",
     re.VERBOSE,
 )
 KINDS = {",": "group", "|": "choice", "&": "interleave"}
@@ -60,6 +62,8 @@ class Reader:
         token = self.peek()
         if text is not None and token.text != text:
             raise ValueError(f"{text!r} is wanted at {token.place}, where {token.text!r} stands")
+        if text is None and token.kind == "end":
+            raise ValueError("the schema ends early")
         self.now += 1
         return token
 

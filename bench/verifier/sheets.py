@@ -13,14 +13,16 @@ from decimal import Decimal
 from typing import NamedTuple
 from xml.parsers import expat
 
+from names import PREFIXED
+
 XSLT = "http://www.w3.org/1999/XSL/Transform"
 XML = "http://www.w3.org/XML/1998/namespace"
 WHITE = " \t\r\n"
 TRUE = ("true",)
 TOKEN = re.compile(
-    r"""\s+
+    rf"""\s+
     |(?P<mark>//|::|[/|@\[\](),.])
-    |(?P<name>[^\W\d][\w.\-]*(?::(?!:)(?:[^\W\d][\w.\-]*|\*))?|\*)""",
+    |(?P<name>{PREFIXED}|\*)""",
     re.VERBOSE,
 )
 
@@ -253,7 +255,7 @@ class Sheet:
         body = self.body(element.children)
         priority = element.get("priority")
         for steps, own in alternatives:
-            self.rules.append(Rule(mode, steps, own if priority is None else Decimal(priority.strip(WHITE)), body))
+            self.rules.append(Rule(mode, steps, own if priority is None else Decimal("".join(priority.split())), body))
         if name is not None:
             self.named[expanded(name.strip(WHITE), element.scope)] = body
 
