@@ -16,9 +16,11 @@ and that the same comes again; and
 - `include` and `same`: the documents shown, and grown ones, by `valid`; each by the other;
 - certificates, changed: `verify` and `upgrade` as verifier/ says.
 
-A folder of --triples has files I, O and S of a further one. P is the share (0.05) of schemas that `jing` tries and of safe
-triples from which 200 documents are grown and not 4. Each difference is printed with its smallest texts, which are put into
-the folder of --keep (differences). It wants the Debian packages jing, libxml2-utils and xsltproc.
+A folder of --triples has files I, O and S of a further one. P is the share (0.05) of safe triples from which 200 documents
+are grown and not 4. Each difference is printed with its smallest texts, which are put into the folder of --keep
+(differences). No program is started for a text: each, with its words, waits where it begins and goes on in a copy of itself
+(fuzzing/forks.c), and `jing` waits in one process (fuzzing/Jing.java); one answer in 16 is asked for again, of the program
+started anew. It wants cc and the Debian packages default-jdk-headless, jing, libxml2-utils and xsltproc.
 """
 import os
 import random
@@ -33,8 +35,9 @@ from pathlib import Path
 TOP = Path(__file__).resolve().parent.parent
 sys.path[:0] = [str(TOP / "bench" / "fuzzing"), str(TOP / "bench" / "verifier")]
 
-from calls import STACK, Caller  # noqa: E402
+from calls import EVERY, STACK, Caller  # noqa: E402
 from cases import KINDS, Cases  # noqa: E402
+from documents import GAVE_UP  # noqa: E402
 from judge import Judges  # noqa: E402
 from shrink import shrunk  # noqa: E402
 
@@ -52,6 +55,7 @@ class Campaign:
         try:
             return self.judges.judge(kind, texts)
         except RecursionError:
+            GAVE_UP["RecursionError"] += 1
             return None
 
     def attempt(self, kind, number):
@@ -66,7 +70,7 @@ class Campaign:
         print(f"{kind} {number}: {differs}", flush=True)
         self.caller.every = 1
         smallest = shrunk(texts, lambda other: self.judged(kind, other) == differs)
-        self.caller.every = 4
+        self.caller.every = EVERY
         folder = self.words.keep / f"{kind}-{self.words.seed}-{number}"
         folder.mkdir(parents=True, exist_ok=True)
         (folder / "differs").write_text(differs + "\n")
@@ -85,6 +89,8 @@ class Campaign:
     def summary(self):
         for what, count in self.judges.told.items():
             print(f"{count:9} {what}")
+        for fault, count in GAVE_UP.items():
+            print(f"{count:9} given up by the plain readers, {fault}")
         for (kind, differs), numbers in self.found.items():
             print(f"DIFFERENCE, {len(numbers)} times, {kind}: {differs} ({', '.join(map(str, numbers[:5]))})")
         return 1 if self.found else 0

@@ -5,12 +5,18 @@ The bounds are those of README and PROFILE: a text of some 100 kB takes at most 
 import os
 import re
 import signal
+import struct
+import subprocess
+from pathlib import Path
 from typing import NamedTuple
 
 SECONDS = 10
-PATIENCE = 300
 KILOBYTES = 1 << 20
 STACK = 8 << 20
+# Of how many answers one is asked for twice, and where forks.c reads and writes.
+EVERY = 16
+ORDERS, REPLIES = 198, 199
+REPLY = struct.Struct("lll")
 
 LIMITS = {
     "file": "67108864", "pattern": "65536", "depth": "2000", "elements": "256", "states": "(512|256)", "symbols": "1024",
@@ -104,14 +110,39 @@ def within(seconds, work):
         signal.setitimer(signal.ITIMER_REAL, 0)
 
 
+def started(program, words, actions, settings):
+    """The number of a new process of a program, without any input."""
+    no_input = (os.POSIX_SPAWN_OPEN, 0, "/dev/null", os.O_RDONLY, 0)
+    return os.posix_spawn(program, [program, *words], {**os.environ, **settings}, file_actions=[no_input, *actions])
+
+
+class Waiting:
+    """A program with its words that waits where it begins, and at each call goes on in a copy of itself (forks.c)."""
+
+    def __init__(self, library, program, words):
+        orders, self.orders = os.pipe()
+        self.replies, replies = os.pipe()
+        actions = [(os.POSIX_SPAWN_DUP2, orders, ORDERS), (os.POSIX_SPAWN_DUP2, replies, REPLIES)]
+        started(program, words, actions, {"LD_PRELOAD": str(library)})
+        os.close(orders)
+        os.close(replies)
+
+    def ended(self):
+        """How another copy ends, its kilobytes, and its microseconds on a processor."""
+        os.write(self.orders, b".")
+        return REPLY.unpack(os.read(self.replies, REPLY.size))
+
+
 class Caller:
-    """Calls a program in the current directory, which it fills with files; each so many answers are asked for twice."""
+    """Calls programs in the current directory, which it fills with files; some answers are asked for twice."""
 
     def __init__(self, program):
         self.program = program
         self.calls = self.answers = 0
-        self.every = 4
-        self.sizes = {}
+        self.every = EVERY
+        self.sizes, self.waiting = {}, {}
+        self.library = Path("forks.so").resolve()
+        subprocess.run(["cc", "-shared", "-fPIC", "-O1", "-o", self.library, Path(__file__).with_name("forks.c")], check=True)
         signal.signal(signal.SIGALRM, stop)
 
     def put(self, name, text):
@@ -120,35 +151,32 @@ class Caller:
             file.write(text)
         self.sizes[name] = len(text)
 
-    def call(self, *words, program=None, settings=()):
+    def call(self, *words, program=None):
         """What a program answers to words."""
         self.calls += 1
-        program = program or self.program
-        actions = [
-            (os.POSIX_SPAWN_OPEN, 0, "/dev/null", os.O_RDONLY, 0),
-            (os.POSIX_SPAWN_OPEN, 1, "told", os.O_WRONLY | os.O_CREAT | os.O_TRUNC, 0o600),
-            (os.POSIX_SPAWN_OPEN, 2, "complaint", os.O_WRONLY | os.O_CREAT | os.O_TRUNC, 0o600),
-        ]
-        child = os.posix_spawn(program, [program, *words], {**os.environ, **dict(settings)}, file_actions=actions)
-        try:
-            _, status, usage = within(PATIENCE, lambda: os.wait4(child, 0))
-            ended = os.waitstatus_to_exitcode(status)
-        except TookLong:
-            os.kill(child, signal.SIGKILL)
-            _, _, usage = os.wait4(child, 0)
-            ended = None
-        return Answer(ended, contents("told"), contents("complaint"), usage.ru_maxrss, usage.ru_utime + usage.ru_stime)
+        key = program or self.program, *words
+        if key not in self.waiting:
+            self.waiting[key] = Waiting(self.library, key[0], words)
+        status, kilobytes, microseconds = self.waiting[key].ended()
+        ended = os.waitstatus_to_exitcode(status)
+        return Answer(None if ended == -signal.SIGALRM else ended, contents("told"), contents("complaint"), kilobytes, microseconds / 1e6)
+
+    def called_anew(self, *words):
+        """How the program ends that is started anew, at other addresses and with its memory filled with another byte, and what
+        it writes to both outputs."""
+        flags = os.O_WRONLY | os.O_CREAT | os.O_TRUNC
+        actions = [(os.POSIX_SPAWN_OPEN, output, name, flags, 0o600) for output, name in ((1, "told"), (2, "complaint"))]
+        _, status = os.waitpid(started(self.program, words, actions, {"MALLOC_PERTURB_": "165"}), 0)
+        return os.waitstatus_to_exitcode(status), contents("told"), contents("complaint")
 
     def answer(self, *words):
-        """An answer, and what is wrong with it, or None: its form, its bounds, or, of each fourth one, that another one comes
-        the second time, when the memory that is given out is filled with another byte."""
+        """An answer, and what is wrong with it, or None: its form, its bounds, or, of some, that another one comes the second
+        time."""
         found = self.call(*words)
         wrong = self.wrong(found, words)
         self.answers += 1
-        if wrong is None and self.answers % self.every == 0:
-            again = self.call(*words, settings=[("MALLOC_PERTURB_", "165")])
-            if again[:3] != found[:3]:
-                wrong = f"{words[0]} answers otherwise the second time"
+        if wrong is None and self.answers % self.every == 0 and self.called_anew(*words) != found[:3]:
+            wrong = f"{words[0]} answers otherwise the second time"
         return found, wrong
 
     def wrong(self, answer, words):

@@ -82,7 +82,7 @@ class Cases:
         """A document that is valid or nearly so, where the schema is accepted, and any other one."""
         nodes, tree = grower.one(3, 8, 30), None
         if self.caller.call("valid", operand, "empty.xml").status in (0, 1):
-            tree = documents.plainly(lambda: documents.Valid(schema).grow(grower.chance, nodes))
+            tree = documents.plainly(lambda: documents.valid_for(schema).grow(grower.chance, nodes))
         if tree is None or grower.likely(0.1):
             tree = DocumentGrower(grower.chance).tree(3)
         elif grower.likely(0.5):

@@ -3,9 +3,11 @@
 A tree is a text or (name, children), the name being (uri, local). In normal form texts side by side are one, and there is
 none of white space alone. Attributes, comments and processing instructions are dropped.
 """
+from collections import Counter
+from functools import lru_cache
 from xml.parsers import expat
 
-from calls import TookLong, within
+from calls import within
 from dtds import schema_of
 from schemas import Numbered, holds, mentioned
 
@@ -13,10 +15,15 @@ WHITE = " \t\r\n"
 ESCAPES = {"&": "&amp;", "<": "&lt;", ">": "&gt;", "\r": "&#13;"}
 
 
+# How often the plain readers gave up on a text, by the names of what they raised.
+GAVE_UP = Counter()
+
+
 class Unread(Exception):
     """A text isn't a document, by expat."""
 
 
+@lru_cache(maxsize=8)
 def tree_of(text):
     """The tree of a document in normal form."""
     parser = expat.ParserCreate(namespace_separator=" ")
@@ -72,8 +79,17 @@ def plainly(work):
     """What the plain readers make of texts that `typecheck` accepts, or None where they don't read one, or take long."""
     try:
         return within(20, work)
-    except (Unread, TookLong, ValueError, KeyError, IndexError, RecursionError, TypeError, AttributeError, StopIteration):
+    except Unread:
         return None
+    except Exception as fault:
+        GAVE_UP[type(fault).__name__] += 1
+        return None
+
+
+@lru_cache(maxsize=4)
+def valid_for(text):
+    """What tries and grows documents of a schema."""
+    return Valid(text)
 
 
 class Valid:
