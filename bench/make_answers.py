@@ -202,12 +202,17 @@ def schema_limits(calls, o, s, d):
     }
     for told, text in schemas.items():
         file = calls.file(text)
-        calls.limit(f"valid: {told}", told, "valid", file, d)
-        calls.limit(f"include: {told}", told, "include", file, o)
-        calls.limit(f"check: {told}", told, "check", file, o, s)
+        for words in (["valid", file, d], ["valid", "--stream", "7", file, d], ["include", file, o], ["same", file, o]):
+            calls.limit(f"{' '.join(words[:-2])}: {told}", told, *words)
+        of_all(calls, told, file, o, s, d)
     output = calls.file(f"element r {{ {', '.join(['text'] * 300)} }}")
-    for command in ("check", "prove"):
-        calls.limit(f"{command}: states 256", "states 256", command, calls.file(SOURCE), output, s)
+    of_all(calls, "states 256", calls.file(SOURCE), output, s, d)
+
+
+def of_all(calls, told, i, o, s, d):
+    """The same limit of the commands that take two schemas and a stylesheet; what a certificate holds is looked at later."""
+    for words in (["check", i, o, s], ["prove", i, o, s], ["verify", i, o, s, d]):
+        calls.limit(f"{words[0]}: {told}", told, *words)
 
 
 def moves(count):
@@ -224,18 +229,18 @@ def sheet_limits(calls, i, o, d):
         "ancestors 64": sheet("".join(rule(f"{name}/y", "<r/>") for name in names(70))),
         "selects 4096": sheet(rule("a", moves(460))),
     }
-    of_check = {
+    deep = {
         "calls 8000": sheet(rule("/", call(0)) + chain),
         "entries 8192": sheet("".join(rule(f"{name}/y", "<r/>") for name in names(9)) + rule("a", moves(115))),
     }
-    for told, text in {**sheets, **of_check}.items():
+    for told, text in {**sheets, **deep}.items():
         file = calls.file(text)
-        calls.limit(f"check: {told}", told, "check", i, o, file)
+        of_all(calls, told, i, o, file, d)
         if told in sheets:
             calls.limit(f"run: {told}", told, "run", file, d)
     doubled = "".join(named(number, call(number + 1) * 2) for number in range(22)) + named(22, "t")
     calls.limit("run: work 4000000", "work 4000000", "run", calls.file(sheet(rule("/", call(0)) + doubled)), d)
-    calls.limit("run: open 8000", "open 8000", "run", calls.file(of_check["calls 8000"]), d)
+    calls.limit("run: open 8000", "open 8000", "run", calls.file(deep["calls 8000"]), d)
 
 
 def other_limits(calls, i, o, s, d):
@@ -249,7 +254,8 @@ def other_limits(calls, i, o, s, d):
         calls.limit(f"{command}: file", "file 67108864", command, i, o, zeros)
     doubled = "start = e1 " + "".join(f"e{number} = element e{number} {{ e{number + 1}, e{number + 1} }} " for number in range(1, 11))
     tree = calls.file(f"{doubled} e11 = element e11 {{ empty }}")
-    calls.limit("check: counterexample", "counterexample 2000", "check", tree, calls.file(NARROW), s)
+    for command in ("check", "prove"):
+        calls.limit(f"{command}: counterexample", "counterexample 2000", command, tree, calls.file(NARROW), s)
     calls.limit("include: counterexample", "counterexample 2000", "include", tree, calls.file(NARROW))
     calls.limit("same: counterexample", "counterexample 2000", "same", tree, calls.file("element q { notAllowed }"))
     for words in (["valid", i, zeros], ["upgrade", zeros], ["run", s, zeros], ["verify", i, o, s, zeros], ["same", zeros, i]):

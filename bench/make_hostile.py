@@ -20,17 +20,22 @@ What stands within one another, N deep:
 What is long:
   definitions N       references in a row; repeated_definitions N: each in a repetition
   calls N, modes N    templates in a row; twice N M: each calls the next one twice, the last has M tests that don't hold
+  uncalled N          named templates that nobody calls; one_body N: N selects in one body
   one PART N          a document or a schema of about N bytes, which are one PART of it
-  marks MARKS N       N bytes of MARKS as a schema, a stylesheet, a document and, where an attribute holds them, a select
-  attributes N; long_namespace N M: of a namespace name of M bytes; references N: with N zeros
+  marks MARKS N       N bytes of MARKS, or so many of the one with a number, as a schema, a stylesheet, a document and, where an
+                      attribute holds them, a select
+  attributes N; tags N: tags of 52 attributes; long_namespace N M: of a namespace name of M bytes; references N: with N zeros;
+                      reference TEXT: one to the character of a number
   declarations N M    N declarations of prefixes, M children that declare one, and a wrong end; scopes N: a stylesheet of these
-  prefixes N M        N declarations of prefixes, M names that have one; schema_prefixes N M: of a schema
+  prefixes N M        N declarations of prefixes, M names that have one; schema_prefixes N M: of a schema; prefixed N M: M selects
+                      of one such name each; long_calls N M: M calls by a namespace name of N bytes
   chains N            attributes whose names come into one chain, in tags of some 65,000 bytes; others N: those of other names
   names N             names of a class; optionals N: members that may be left out; interleaves N; doubled N: definitions that refer
                       to the next one twice; stars N M: N alternatives in M repetitions; subsets N M: M children, of which the one
                       N before the last matters
   nested K N          K selects of N predicates within one another; selects N: different tests; alternatives N M: of a pattern, of
                       M names; pairs N M: of two steps
+  path N              a select of N steps; windows N, ancestors N: such a select, such a pattern whose first step may be at any depth
   levels N M          N tests on each of M elements within one another
 
 The same words give the same bytes.
@@ -220,6 +225,16 @@ def modes(count):
     return {"I": EMPTY, "O": ANY, "S": sheet(rule("/", '<xsl:apply-templates mode="m0"/>') + rules), "D": "<a/>"}
 
 
+def uncalled(count):
+    rules = "".join(named(f"n{number}", f"<e{number % 900}><b/></e{number % 900}>") for number in range(count))
+    return {"I": EMPTY, "O": EMPTY, "S": sheet(COPY + rules), "D": "<a/>"}
+
+
+def one_body(count):
+    paths = itertools.islice(itertools.combinations(range(900), 2), count)
+    return {"S": sheet(rule("a", "".join(f'<xsl:apply-templates select="x{one}|x{other}"/>' for one, other in paths))), "D": "<a/>"}
+
+
 def twice(count, false_tests):
     rules = rule("/", call(1)) + "".join(named(f"n{number}", call(number + 1) * 2) for number in range(1, count))
     last = "".join(test(f"b{number % 900}", "<x/>") for number in range(false_tests))
@@ -260,8 +275,9 @@ def one(part, size):
 
 
 def marks(unit, size):
+    unit = chr(unit) if isinstance(unit, int) else unit
     text = unit * (int(size) // len(unit.encode()))
-    files = {"I": text, "S": text, "D": text}
+    files = {"A": ANY, "I": text, "S": text, "D": text}
     if not set(unit) & set('<&"'):
         files["P"] = [FRONT, '<xsl:template match="a"><xsl:apply-templates select="', text[: int(size) - 300], '"/></xsl:template>', BACK]
     return files
@@ -276,12 +292,21 @@ def attributes(count):
     return {"I": ANY, "D": ["<a", "".join(f' {name}=""' for name in letters(count, length)), "/>"]}
 
 
+def tags(count):
+    tag = "<b" + "".join(f' {name}=""' for name in string.ascii_letters) + "/>"
+    return {"I": ANY, "D": ["<a>", tag * count, "</a>"]}
+
+
 def long_namespace(count, size):
     return {"I": ANY, "D": [f'<a xmlns:p="{"u" * size}"', "".join(f' p:k{number}=""' for number in range(count)), "/>"]}
 
 
 def references(zeros):
     return {"I": ANY, "D": f"<a>&#{'0' * zeros}65;</a>"}
+
+
+def reference(number):
+    return {"I": ANY, "D": f"<a>&#{number};</a>"}
 
 
 def declared(count):
@@ -302,6 +327,16 @@ def prefixes(count, tests_count):
     path = "|".join(f"p{number * 7919 % count}:a" for number in range(tests_count))
     body = f'<xsl:apply-templates select="{path}"/>'
     return {"S": FRONT[:-1] + declared(count) + ">" + rule("a", body) + BACK, "D": "<a/>"}
+
+
+def prefixed(count, selects_count):
+    body = "".join(f'<xsl:value-of select="p{number * 7919 % count}:a"/>' for number in range(selects_count))
+    return {"S": FRONT[:-1] + declared(count) + ">" + rule("a", body) + BACK, "D": "<a/>"}
+
+
+def long_calls(size, count):
+    rules = named("p:n", "") + rule("a", '<xsl:call-template name="p:n"/>' * count)
+    return {"S": f'{FRONT[:-1]} xmlns:p="{"u" * size}">{rules}{BACK}', "D": "<a/>"}
 
 
 def schema_prefixes(count, names_count):
@@ -397,6 +432,18 @@ def pairs(count, names_count):
     return {"S": sheet(rule(match, "<y/>")), "D": "<x0/>"}
 
 
+def path(count):
+    return {"S": sheet(rule("a", f'<xsl:apply-templates select="{"/".join(["*"] * count)}"/>')), "D": "<a/>"}
+
+
+def windows(count):
+    return {"S": sheet(rule("a", f'<xsl:apply-templates select=".//a{"/*" * (count - 1)}"/>')), "D": "<a/>"}
+
+
+def ancestors(count):
+    return {"S": sheet(rule(f"a{'/*' * (count - 1)}", "<x/>")), "D": "<a/>"}
+
+
 def levels(count, depth):
     body = "".join(test(f".//x{number}", "<y/>") for number in range(count)) + APPLY
     return {"S": sheet(rule("a", body)), "D": within("<a>", "", "</a>", depth)}
@@ -405,8 +452,9 @@ def levels(count, depth):
 KINDS = (
     elements, braces, groups, pluses, empties, suffixed, starts, classes, excepts, excepts_attribute, divisions, balanced,
     particles, tests, predicate, brackets, copies, branches, applies, residues, definitions, repeated_definitions, calls, modes,
-    twice, one, marks, attributes, long_namespace, references, declarations, scopes, prefixes, schema_prefixes, chains, others,
-    names, optionals, interleaves, doubled, stars, subsets, nested, selects, alternatives, pairs, levels,
+    uncalled, one_body, twice, one, marks, attributes, tags, long_namespace, references, reference, declarations, scopes, prefixes,
+    prefixed, long_calls, schema_prefixes, chains, others, names, optionals, interleaves, doubled, stars, subsets, nested, selects,
+    alternatives, pairs, path, windows, ancestors, levels,
 )  # fmt: skip
 
 
