@@ -151,6 +151,7 @@ if [ "$times" = twice ]; then
   twice 'tags 96000' 'tags 192000' valid I D
   twice 'chains 250' 'chains 500' valid --stream 65536 I D
   twice 'others 500' 'chains 500' valid --stream 65536 I D
+  twice 'unlike 20000' 'alike 20000' valid I D
   for part in text white comment cdata instruction value name brackets characters spaces empty references sections comments; do
     twice "one $part 33554432" "one $part 67108864" valid I D
   done
@@ -296,6 +297,9 @@ row '0 valid' 'tags 192000' valid I D
 row '0 valid' 'tags 192000' valid --stream 65536 I D
 beyond '0 valid' 'chains 500' valid --stream 65536 I D
 row '0 valid' 'others 500' valid --stream 65536 I D
+beyond '0 valid' 'alike 50000' valid I D
+row '0 valid' 'unlike 50000' valid I D
+beyond '0 <r/>' 'alike_templates 50000' run S D
 
 # As long as a file may be, of one part.
 for part in text white comment cdata instruction value name brackets characters spaces references sections comments; do

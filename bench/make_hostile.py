@@ -30,6 +30,7 @@ What is long:
   prefixes N M        N declarations of prefixes, M names that have one; schema_prefixes N M: of a schema; prefixed N M: M selects
                       of one such name each; long_calls N M: M calls by a namespace name of N bytes
   chains N            attributes whose names come into one chain, in tags of some 65,000 bytes; others N: those of other names
+  alike N             N declarations of prefixes that have one hash; alike_templates N: N names of templates; unlike N: other ones
   names N             names of a class; optionals N: members that may be left out; interleaves N; doubled N: definitions that refer
                       to the next one twice; stars N M: N alternatives in M repetitions; subsets N M: M children, of which the one
                       N before the last matters
@@ -376,6 +377,45 @@ def others(count):
     return tags_of(list(letters(6500, 5)), count)
 
 
+MULTIPLIER, STATE, ALL = 0x9E3779B97F4A7C15, 0x243F6A8885A308D3, 2**64 - 1
+
+
+def folded(one, other):
+    """How the tables of names mix two numbers of 64 bits: both halves of the product, joined by xor."""
+    product = one * other
+    return (product & ALL) ^ (product >> 64)
+
+
+def of_one_hash(count, state=STATE):
+    """Names of 48 characters that have one hash, where this state comes before. Their second 16 characters begin with the state
+    that the first 16 lead to, which takes it to 0 whatever follows; the last 16 are the same."""
+    for front in map("".join, itertools.product(NAME, repeat=16)):
+        low, high = (int.from_bytes(half.encode(), "little") for half in (front[:8], front[8:]))
+        led = folded(low ^ state + 48, high ^ MULTIPLIER).to_bytes(8, "little").decode("latin-1")
+        if set(led) <= set(NAME):
+            free = itertools.islice(itertools.product(NAME, repeat=8), count)
+            return [front + led + "".join(each) + "e" * 16 for each in free]
+    return []
+
+
+def prefixes_of(found):
+    return {"I": ANY, "D": ["<a", "".join(f' xmlns:{name}="u"' for name in found), "/>"]}
+
+
+def alike(count):
+    return prefixes_of(of_one_hash(count))
+
+
+def unlike(count):
+    return prefixes_of(f"{number:e>48}" for number in range(10**15, 10**15 + count))
+
+
+def alike_templates(count):
+    """Their names have no namespace, whose hash comes before."""
+    state = folded(folded(STATE, MULTIPLIER) ^ 0xFFFFFF, MULTIPLIER ^ 2)
+    return {"S": sheet(rule("a", "<r/>") + "".join(named(name, "") for name in of_one_hash(count, state))), "D": "<a/>"}
+
+
 def names(count):
     return {"I": f"start = element ({'|'.join(f'a{number}' for number in range(count))}) {{ empty }}", "D": "<a0/>"}
 
@@ -452,9 +492,9 @@ def levels(count, depth):
 KINDS = (
     elements, braces, groups, pluses, empties, suffixed, starts, classes, excepts, excepts_attribute, divisions, balanced,
     particles, tests, predicate, brackets, copies, branches, applies, residues, definitions, repeated_definitions, calls, modes,
-    uncalled, one_body, twice, one, marks, attributes, tags, long_namespace, references, reference, declarations, scopes, prefixes,
-    prefixed, long_calls, schema_prefixes, chains, others, names, optionals, interleaves, doubled, stars, subsets, nested, selects,
-    alternatives, pairs, path, windows, ancestors, levels,
+    uncalled, one_body, twice, one, marks, attributes, tags, long_namespace, references, reference, declarations, scopes,
+    prefixes, prefixed, long_calls, schema_prefixes, chains, others, alike, alike_templates, unlike, names, optionals,
+    interleaves, doubled, stars, subsets, nested, selects, alternatives, pairs, path, windows, ancestors, levels,
 )  # fmt: skip
 
 

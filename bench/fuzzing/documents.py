@@ -122,10 +122,12 @@ class Valid:
                 if k not in costs and first in left and self.names[k]:
                     costs[k] = left[first] + 1
                     changed = True
-            for state, edges in enumerate(self.states.edges):
-                found = [left[to] + self.cost(label, costs) for label, to in edges if to in left and (label == "text" or label in costs)]
-                if found and min(found) < left.get(state, min(found) + 1):
-                    left[state] = min(found)
+            # most edges lead on, so what a state leads to is mostly known where it comes behind
+            for state in reversed(range(len(self.states.edges))):
+                edges = self.states.edges[state]
+                found = min((left[to] + self.cost(label, costs) for label, to in edges if to in left and (label == "text" or label in costs)), default=None)
+                if found is not None and found < left.get(state, found + 1):
+                    left[state] = found
                     changed = True
         return costs, left
 
