@@ -1,12 +1,13 @@
 #!/usr/bin/env bash
 # Runs the program on the texts of make_hostile.py, under limits on memory, stack (8 MB) and time: each row's words, the bytes
-# of its files, the status and the first line of the answer, the seconds and the kilobytes of memory. Files of at most 100,000
-# bytes may take 10 seconds and 1 GB, others 60 seconds and 40 times their bytes, but 1 GB in any case. It fails where a call
-# ends by a signal, is stopped, or answers otherwise than stands here, which is derived from the definitions. Rows that PROFILE
-# says may take more run within ten minutes and 8 GB, and tell how many times their seconds and memory they take. Words: the
-# number by which the seconds are multiplied (1), and what a row's words have to hold, if not all rows are meant. With the word
-# `stack` in place of both, the smallest stack that each of the deepest texts takes; with the word `twice`, how the processor
-# time grows with twice the text, which fails past 2.2. It wants python3, the Debian package time, and some 3 GB.
+# of its files, the status and the first line of the answer, the seconds, the kilobytes of memory, the seconds on a processor.
+# Files of at most 100,000 bytes may take 10 seconds and 1 GB, others 60 seconds and 40 times their bytes, but 1 GB in any case.
+# It fails where a call ends by a signal, is stopped, or answers otherwise than stands here, which is derived from the
+# definitions. Rows that PROFILE says may take more get ten minutes and 6 GB; it tells how many times their processor time and
+# memory they take. Words: the number by which the seconds are multiplied (1), and what a row's words have to hold, if not all
+# rows are meant. With the word `stack` in place of both, the smallest stack that each of the deepest texts takes; with the word
+# `twice`, how the processor time grows with twice the text, which fails past 2.2 (the second word is as above). It wants
+# python3, the Debian package time, and some 6 GB.
 set -eu
 . "$(dirname "$0")/program.sh"
 times=${1:-1}
@@ -54,7 +55,7 @@ attempt() {
 
 # Tells what was attempted by some words, and what there is to say of it.
 tell() {
-  printf '%-30s %-22s %9d  %-62s %s\n' "$1" "${*:3}" "$bytes" "$answer" "$(tail -1 "$work/taken" | cut -d' ' -f1,2)$2"
+  printf '%-30s %-22s %9d  %-62s %s\n' "$1" "${*:3}" "$bytes" "$answer" "$(tail -1 "$work/taken")$2"
 }
 
 is_meant() {
@@ -76,8 +77,8 @@ beyond() {
   local expected=$1 words=$2 verdict
   shift 2
   is_meant "$words" "$@" || return 0
-  attempt 600 8000000 "$words" "$@"
-  verdict=$(tail -1 "$work/taken" | awk "{ printf \"  %.1f of its seconds, %.1f of its memory\", \$1 / $bound, \$2 / $memory }")
+  attempt 600 6000000 "$words" "$@"
+  verdict=$(tail -1 "$work/taken" | awk "{ printf \"  %.1f of its seconds, %.1f of its memory\", \$3 / $bound, \$2 / $memory }")
   [[ "$answer" =~ ^($expected|7 |124 ) ]] || { verdict+="  NOT: $expected" && failed=1; }
   tell "$words" "$verdict" "$@"
 }
@@ -109,6 +110,7 @@ processor() {
 twice() {
   local first=$1 second=$2 one two verdict=
   shift 2
+  is_meant "$second" "$@" || return 0
   one=$(processor "$first" "$@")
   two=$(processor "$second" "$@")
   awk "BEGIN { exit !($two > 1 && $two > 2.2 * $one) }" && verdict='  MORE THAN TWICE' && failed=1
