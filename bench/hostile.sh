@@ -91,7 +91,7 @@ stack() {
   while ((most - least > 16)); do
     middle=$(((least + most) / 2))
     status=0
-    run 600 8000000 "$middle" "$@" || status=$?
+    run 600 6000000 "$middle" "$@" || status=$?
     if ((status < 120)); then most=$middle; else least=$middle; fi
   done
   printf '%-30s %-22s %6d kB\n' "$words" "$*" "$most"
@@ -102,7 +102,7 @@ processor() {
   local words=$1
   shift
   make "$words"
-  run 600 8000000 8192 "$@" || true
+  run 600 6000000 8192 "$@" || true
   tail -1 "$work/taken" | cut -d' ' -f3
 }
 
@@ -249,6 +249,7 @@ row '4 limit open 8000' 'applies 2000 2' run S D
 row '1 unsafe' 'residues 3 5 7 19' check I O S
 row '1 unsafe' 'residues 3 5 7 19' prove I O S
 row '1 not-included' 'residues 3 5 7 19' include I A
+row '1 different' 'residues 3 5 7 19' same I A
 
 # What is long, in rows.
 row '0 valid' 'definitions 100000' valid I D

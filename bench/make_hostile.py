@@ -27,16 +27,16 @@ What is long:
   attributes N; tags N: tags of 52 attributes; long_namespace N M: of a namespace name of M bytes; references N: with N zeros;
                       reference TEXT: one to the character of a number
   declarations N M    N declarations of prefixes, M children that declare one, and a wrong end; scopes N: a stylesheet of these
-  prefixes N M        N declarations of prefixes, M names that have one; schema_prefixes N M: of a schema; prefixed N M: M selects
-                      of one such name each; long_calls N M: M calls by a namespace name of N bytes
+  prefixes N M        N declarations of prefixes, M names that have one; schema_prefixes N M: of a schema; prefixed N M: M
+                      selects of one such name each; long_calls N M: M calls by a namespace name of N bytes
   chains N            attributes whose names come into one chain, in tags of some 65,000 bytes; others N: those of other names
-  alike N             N declarations of prefixes that have one hash; alike_templates N: N names of templates; unlike N: other ones
+  alike N             N declarations of prefixes that have one hash; unlike N: of others; alike_templates N: N names of templates
   names N             names of a class; optionals N: members that may be left out; interleaves N; doubled N: definitions that refer
                       to the next one twice; stars N M: N alternatives in M repetitions; subsets N M: M children, of which the one
                       N before the last matters
   nested K N          K selects of N predicates within one another; selects N: different tests; alternatives N M: of a pattern, of
                       M names; pairs N M: of two steps
-  path N              a select of N steps; windows N, ancestors N: such a select, such a pattern whose first step may be at any depth
+  path N              a select of N steps; windows N, ancestors N: one, and a pattern, whose first step may be at any depth
   levels N M          N tests on each of M elements within one another
 
 The same words give the same bytes.
@@ -233,7 +233,8 @@ def uncalled(count):
 
 def one_body(count):
     paths = itertools.islice(itertools.combinations(range(900), 2), count)
-    return {"S": sheet(rule("a", "".join(f'<xsl:apply-templates select="x{one}|x{other}"/>' for one, other in paths))), "D": "<a/>"}
+    body = "".join(f'<xsl:apply-templates select="x{one}|x{other}"/>' for one, other in paths)
+    return {"S": sheet(rule("a", body)), "D": "<a/>"}
 
 
 def twice(count, false_tests):

@@ -1,5 +1,6 @@
 #!/usr/bin/env python3
-"""Tests that the tables and the usage line of docs/PROFILE.md, and the statuses of README.md, are those of the code."""
+"""Tests that the tables and the usage line of docs/PROFILE.md, and the statuses of README.md, are those of the code, and that
+PROFILE tells of the texts of bench/hostile.sh that may take more."""
 import os
 import re
 import unittest
@@ -122,6 +123,14 @@ class Limits(unittest.TestCase):
         limit, piece, demo = most["MOST_LIMIT"], most["LARGEST_PIECE"], most["MOST_DEMO"]
         words = f"N of `--limit` is from 1 to {limit:,}, N of `--stream` from 1 to {piece:,}, and N of `demo` from 1 to {demo}, in"
         self.assertIn(words, section("Words"))
+
+
+class Strangers(unittest.TestCase):
+    def test_texts_that_cost_more_than_their_length(self):
+        (rows,) = tables(section("Files of strangers"), "command | text | takes | why")
+        told = {(re.match("`(.*?)`", text)[1], command.split("`")[1]) for command, text, _, _ in rows}
+        tried = re.findall(r"^beyond '.*?' '(.*?)' (valid --stream|\w+) ", Path("bench/hostile.sh").read_text(), re.M)
+        self.assertEqual(told, set(tried))
 
 
 class Calls(unittest.TestCase):

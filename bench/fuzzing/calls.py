@@ -157,9 +157,11 @@ class Caller:
         key = program or self.program, *words
         if key not in self.waiting:
             self.waiting[key] = Waiting(self.library, key[0], words)
-        status, kilobytes, microseconds = self.waiting[key].ended()
-        ended = os.waitstatus_to_exitcode(status)
-        return Answer(None if ended == -signal.SIGALRM else ended, contents("told"), contents("complaint"), kilobytes, microseconds / 1e6)
+        ended, kilobytes, microseconds = self.waiting[key].ended()
+        status = os.waitstatus_to_exitcode(ended)
+        if status == -signal.SIGALRM:
+            status = None
+        return Answer(status, contents("told"), contents("complaint"), kilobytes, microseconds / 1e6)
 
     def called_anew(self, *words):
         """How the program ends that is started anew, at other addresses and with its memory filled with another byte, and what

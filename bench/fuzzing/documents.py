@@ -124,8 +124,8 @@ class Valid:
                     changed = True
             # most edges lead on, so what a state leads to is mostly known where it comes behind
             for state in reversed(range(len(self.states.edges))):
-                edges = self.states.edges[state]
-                found = min((left[to] + self.cost(label, costs) for label, to in edges if to in left and (label == "text" or label in costs)), default=None)
+                known = (edge for edge in self.states.edges[state] if edge[1] in left and (edge[0] == "text" or edge[0] in costs))
+                found = min((left[to] + self.cost(label, costs) for label, to in known), default=None)
                 if found is not None and found < left.get(state, found + 1):
                     left[state] = found
                     changed = True

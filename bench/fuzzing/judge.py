@@ -37,7 +37,8 @@ class Jing:
 
     def __init__(self):
         jars = ":".join(f"/usr/share/java/{name}.jar" for name in ("jing", "xercesImpl", "xml-apis", "xml-resolver"))
-        words = ["java", "-XX:+UseSerialGC", "-XX:TieredStopAtLevel=1", "-Xmx300m", "-cp", jars, Path(__file__).with_name("Jing.java")]
+        options = ["-XX:+UseSerialGC", "-XX:TieredStopAtLevel=1", "-Xmx300m", "-cp", jars]
+        words = ["java", *options, Path(__file__).with_name("Jing.java")]
         self.process = subprocess.Popen(words, stdin=subprocess.PIPE, stdout=subprocess.PIPE, bufsize=0)
 
     def answer(self):
