@@ -17,6 +17,7 @@ What stands within one another, N deep:
   open N M            named templates that call one another, each within M copies, the last around a test that is 2,000 deep, on
                       a node that is 1,999 deep; applies N M: a rule that goes on within M copies, on N elements
   residues P..        elements to each number that isn't a multiple of the product of some primes
+  rows N              a certificate with N rows of trees and one more of lists, and what it is of
 What is long:
   definitions N       references in a row; repeated_definitions N: each in a repetition
   calls N, modes N    templates in a row; twice N M: each calls the next one twice, the last has M tests that don't hold
@@ -199,6 +200,25 @@ def residues(*primes):
             other += f"e{prime}_{number} = element a {{ e{prime}_{following}{'' if number == prime else '?'} }}\n"
     wanted = "start = element r { y+, x? }\ny = element y { empty }\nx = element x { x? }\n"
     return {"I": elements(1)["I"], "O": wanted, "A": other, "S": sheet(rules)}
+
+
+def rows(count, optional=252):
+    """All states lead to a few of those of the content of `r`, which all accept: so each set put behind another one is that set,
+    and what the built-in rule puts out passes. States 0 and 1 are those of the start, 2 is that of `x`, and the others of `r`."""
+    states = range(4 + optional)
+    chosen = itertools.islice(itertools.combinations(states[4:], 2), count - 1)
+    sets = [[(start, to) for start in states for to in (3, *few)] for few in chosen]
+    lines = sorted("m " + " ".join(f"{start}>{to}" for start, to in each) for each in ([(state, state) for state in states], *sets))
+    identity = next(number for number, line in enumerate(lines) if line.startswith("m 0>0"))
+    trees = sorted(f"t 0 0 1 {number} -" for number in range(count))
+    hedges = sorted([f"h 0 0 0 {identity} -", *(f"h 0 0 1 {number} -" for number in range(count))])
+    parts = [f"outputs {count}", *lines, f"trees {count}", *trees, f"hedges {count + 1}", *hedges, "end\n"]
+    return {
+        "I": "start = a\na = element a { a* }\n",
+        "O": f"start = r\nx = element x {{ empty }}\nr = element r {{ {', '.join(['x?'] * optional)} }}\n",
+        "S": sheet(rule("/", f"<r>{APPLY}</r>")),
+        "C": "\n".join(["xslt-typecheck certificate 1", *parts]),
+    }
 
 
 # What is long.
@@ -492,8 +512,8 @@ def levels(count, depth):
 
 KINDS = (
     elements, braces, groups, pluses, empties, suffixed, starts, classes, excepts, excepts_attribute, divisions, balanced,
-    particles, tests, predicate, brackets, copies, branches, applies, residues, definitions, repeated_definitions, calls, modes,
-    uncalled, one_body, twice, one, marks, attributes, tags, long_namespace, references, reference, declarations, scopes,
+    particles, tests, predicate, brackets, copies, branches, applies, residues, rows, definitions, repeated_definitions, calls,
+    modes, uncalled, one_body, twice, one, marks, attributes, tags, long_namespace, references, reference, declarations, scopes,
     prefixes, prefixed, long_calls, schema_prefixes, chains, others, alike, alike_templates, unlike, names, optionals,
     interleaves, doubled, stars, subsets, nested, selects, alternatives, pairs, path, windows, ancestors, levels,
 )  # fmt: skip
