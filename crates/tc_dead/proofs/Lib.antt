@@ -1,0 +1,3 @@
+pub mod PlainTrees
+pub mod NumberedSpots
+pub mod Walks
