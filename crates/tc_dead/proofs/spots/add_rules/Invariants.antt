@@ -1,0 +1,7 @@
+use Rattle.std.proofs.Common.{◌≡◌, ◌++◌, map}
+use Rattle.tc_dead.specs.Spots.{a_rule, up_to}
+use Rattle.tc_dead.specs.Views.{seen}
+use Rattle.tc_dead.proofs.spots.add_rules.Given as goal
+
+abbrev pub invariant-loop-before : goal.invariant-loop-before
+invariant-loop-before l = map seen l.spots.items ≡ map seen l.initial.spots.items ++ map a_rule (up_to l.before)
