@@ -5,3 +5,4 @@ pub mod SameParts
 pub mod Lawful
 pub mod InstructionParts
 pub mod CountSteps
+pub mod PlainSeen
