@@ -6,3 +6,4 @@ pub mod Lawful
 pub mod InstructionParts
 pub mod CountSteps
 pub mod PlainSeen
+pub mod LawfulMarks
