@@ -86,7 +86,7 @@ pub if_ok : {T E : Type 0} (r : Result T E) (P Q : T → Type 0) → ((x : T) �
 if_ok (Ok x) P Q f h = f x h
 if_ok (Err e) P Q f h = h
 
-rule_bodies_so : (rs : List Rule) → map (λ r. r.body) (map see.rule rs) ≡ map (λ r. see.body r.body.now) rs
+pub rule_bodies_so : (rs : List Rule) → map (λ r. r.body) (map see.rule rs) ≡ map (λ r. see.body r.body.now) rs
 rule_bodies_so [] = refl
 rule_bodies_so (r ∷ rs) = ap (λ z. see.body r.body.now ∷ z) (rule_bodies_so rs)
 

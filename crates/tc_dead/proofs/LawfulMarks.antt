@@ -98,6 +98,7 @@ module _ (p : Spot) where
         nothing_counts : (b : Body) (z : Bool) (m : Body) → is_nothing b ≡ z → in_body m ≡ count_from e (eaches_of b) → in_body (cond z no_instruction m) ≡ count_from e (eaches_of b)
         nothing_counts b true m is f = ap (λ y. count_from e (eaches_of y)) (sym (nothing_so b is))
         nothing_counts b false m is f = f
+
         last_counts : (b m : Body) → in_body m ≡ count_from e (eaches_of b) → in_body (cond (is_nothing b) no_instruction m) ≡ count_from e (eaches_of b)
         last_counts b m f = nothing_counts b (is_nothing b) m refl f
     numbered_in n e (branch t b x) =

@@ -7,3 +7,4 @@ pub mod InstructionParts
 pub mod CountSteps
 pub mod PlainSeen
 pub mod LawfulMarks
+pub mod MarkSteps

@@ -73,6 +73,15 @@ fn wrapped<'b>(arena: &'b Bump, copied: &'b [Instr<'b>]) -> Result<Instr<'b>, No
     Ok(Instr::Elem(wrapper_name(), inner))
 }
 
+/// Puts an instruction behind others.
+fn put<'b>(found: &mut Vec<Instr<'b>, &'b Bump>, instruction: Instr<'b>) -> Result<(), NoMemory>
+    ensures { OnOk result ((rest : model.Body) → placed found.new.items rest
+        ≡ placed found.old.items (see.instruction instruction.entry rest)) }
+{
+    found.push(instruction)?;
+    Ok(())
+}
+
 /// Puts an instruction behind others as it is to stand in the marked stylesheet: of a literal element what it holds.
 #[cycle(mark)]
 fn put_one<'b>(
@@ -83,30 +92,29 @@ fn put_one<'b>(
 ) -> Result<(), NoMemory>
     ensures { OnOk result (IsPut (seen marker.entry.spot) instruction.now next.old next.new found.old.items found.new.items) }
 {
-    let put = match instruction {
-        Instr::Elem(_, inner) => return put_all(marker, found, inner, next),
+    match instruction {
+        Instr::Elem(_, inner) => put_all(marker, found, inner, next),
         Instr::Copy(inner) => {
             let copied = marked_body(marker, false, inner, next)?;
-            wrapped(marker.arena, copied)?
+            let around = wrapped(marker.arena, copied)?;
+            put(found, around)
         }
         Instr::Choose(branches, last) => {
             let chosen = marked_branches(marker, branches, next)?;
             let otherwise = marked_last(marker, last, next)?;
-            Instr::Choose(chosen, otherwise)
+            put(found, Instr::Choose(chosen, otherwise))
         }
         Instr::ForEach(_, path, inner) => {
             let number = take_number(&mut next.each)?;
             let repeated = marked_body(marker, false, inner, next)?;
-            Instr::ForEach(number, *path, repeated)
+            put(found, Instr::ForEach(number, *path, repeated))
         }
         Instr::Text(_)
         | Instr::Apply(_, _)
         | Instr::Call(_)
         | Instr::ValueOf(_)
-        | Instr::ValueOfSelf => *instruction,
-    };
-    found.push(put)?;
-    Ok(())
+        | Instr::ValueOfSelf => put(found, *instruction),
+    }
 }
 
 /// Puts the instructions of a body behind others.

@@ -3,6 +3,7 @@ use Rattle.tc_dead.proofs.Walks.{tells}
 use Rattle.tc_dead.proofs.SameParts.{same_predicates, same_patterns, same_looks, same_moves}
 use Rattle.tc_dead.proofs.Lawful.{lawful_schema}
 use Rattle.tc_dead.proofs.LawfulMarks.{lawful_sheet}
+use Rattle.tc_dead.proofs.MarkSteps.{named_end}
 use Rattle.tc_dead.proofs.laws.law_of_marks.Goals as goal
 
 pub returns-clause-rule : goal.returns-clause-rule
