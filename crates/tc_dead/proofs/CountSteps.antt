@@ -1,5 +1,5 @@
 -- Steps of loops that count, and of those that put spots.
-use Rattle.std.proofs.Common.{◌≡◌, ℕ, ◌+◌, ◌<◌, ◌≤◌, List, [], ◌∷◌, ◌++◌, refl, ap, ◌∙◌, sym, arith, length, map, get_or, drop, append_assoc, add-one, suc, Result, Ok, Err, IfOk}
+use Rattle.std.proofs.Common.{◌≡◌, ℕ, ◌+◌, ◌<◌, ◌≤◌, List, [], ◌∷◌, ◌++◌, refl, ap, ◌∙◌, sym, arith, length, map, get_or, drop, append_assoc, add-one, suc, Result, Ok, Err, IfOk, OnOk}
 use Rattle.std.proofs.lemmas.List.{drop_more, drop_all, get_or_default}
 use Rattle.tc_model.specs.Sheets as model
 use Rattle.tc_model.specs.Views as see
@@ -110,3 +110,7 @@ all_spots x none rules named all put i j k l is js ks ls e f g h p =
     ∙ (ap (λ z. z ++ map spots.a_branch (up_to l)) (g ∙ ap (λ z. z ++ map spots.a_named_body (up_to j)) (f ∙ ap (λ z. map seen z ++ map spots.a_rule (up_to i)) e))
     ∙ (append_assoc (map spots.a_rule (up_to i)) (map spots.a_named_body (up_to j)) (map spots.a_branch (up_to l))
     ∙ λ m. map spots.a_rule (up_to (first m)) ++ (map spots.a_named_body (up_to (second m)) ++ map spots.a_branch (up_to (count m))))))
+
+pub on_ok : {T E : Type 0} (r : Result T E) (P Q : Type 0) → (P → Q) → OnOk r P → OnOk r Q
+on_ok (Ok x) P Q f h = f h
+on_ok (Err e) P Q f h = h

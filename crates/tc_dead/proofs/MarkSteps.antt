@@ -10,9 +10,11 @@ use Rattle.tc_model.specs.declared.sheet.Branch.{Branch}
 use Rattle.tc_model.specs.declared.sheet.Instr.{Instr}
 use Rattle.tc_model.specs.declared.sheet.Instr.TheVariants as v
 use Rattle.tc_model.specs.declared.sheet.Rule.{Rule}
+use Rattle.tc_model.specs.declared.sheet.Sheet.{Sheet}
+use Rattle.tc_model.specs.Views as see
 use Rattle.tc_model.proofs.ViewsBody.{see_text, see_elem, see_copy, see_apply, see_call, see_value_of, see_value_of_self, see_choose, see_for_each, left_instruction, pushed_branch}
-use Rattle.tc_dead.specs.Spots.{Spot, a_rule, a_named_body, a_branch, same_spot, is_nothing, branches_of, branches_in, eaches_of, eaches_in, branches_of_all, eaches_of_all, rules_from, bodies_from}
-use Rattle.tc_dead.specs.Marked.{wrapper_name, mark_name, mark_before, begun, marked_before, marked_branches, marked_rule, marked_body}
+use Rattle.tc_dead.specs.Spots.{Spot, a_rule, a_named_body, a_branch, same_spot, is_nothing, branches_of, branches_in, eaches_of, eaches_in, branches_of_all, eaches_of_all, rules_from, bodies_from, rule_bodies}
+use Rattle.tc_dead.specs.Marked.{marked_at, wrapper_name, mark_name, mark_before, begun, marked_before, marked_branches, marked_rule, marked_body}
 use Rattle.tc_dead.specs.Views.{bodies, alone, placed, open_branches, IsPast, IsPut, IsPutBody, IsBegunBody, IsMarkedBranch, IsMarkedBranches, IsMarkedLast, IsMarkedRules, IsMarkedNamed}
 use Rattle.tc_dead.specs.declared.marking.Numbers.{Numbers}
 use Rattle.tc_dead.proofs.InstructionParts.{Layer, next_branch, no_body_left, choose_branches, choose_eaches, is_something, branches_of_last, branches_by, eaches_by, branches_of_text, branches_of_elem, branches_of_copy, branches_of_apply, branches_of_call, branches_of_value, branches_of_self, branches_of_choose, branches_of_each, eaches_of_text, eaches_of_elem, eaches_of_copy, eaches_of_apply, eaches_of_call, eaches_of_value, eaches_of_self, eaches_of_choose, eaches_of_each}
@@ -45,6 +47,13 @@ pub wrapped_so : (n : Name) (inner copied : Bor (List Instr)) → name n ≡ wra
     → instruction (v.Elem n inner) rest ≡ s.put_element wrapper_name (s.copy (body copied.now) s.no_instruction) rest
 wrapped_so n inner copied e h rest =
     around n inner (v.Copy copied) (s.copy (body copied.now) s.no_instruction) h (see_copy copied s.no_instruction) rest ∙ ap (λ z. s.put_element z (s.copy (body copied.now) s.no_instruction) rest) e
+
+-- what a body begins with
+pub begun_yes : (is_it : Bool) (none first found : List Instr) → is_it ≡ true → none ≡ [] → ((rest : Body) → placed first rest ≡ placed none (mark_before rest)) → found ≡ first → (rest : Body) → placed found rest ≡ begun is_it rest
+begun_yes is_it none first found so e put is rest = ap (λ z. placed z rest) is ∙ (put rest ∙ (ap (λ z. placed z (mark_before rest)) e ∙ ap (λ z. begun z rest) (sym so)))
+
+pub begun_no : (is_it : Bool) (none found : List Instr) → is_it ≡ false → none ≡ [] → found ≡ none → (rest : Body) → placed found rest ≡ begun is_it rest
+begun_no is_it none found nay e is rest = ap (λ z. placed z rest) (is ∙ e) ∙ ap (λ z. begun z rest) (sym nay)
 
 module _ (p : Spot) where
   abbrev before : ℕ → ℕ → Body → Body → Body
@@ -275,3 +284,18 @@ module _ (p : Spot) where
     branches_past = branches_counted_all (λ (z : Bor (List Instr)). body z.now) bs k h next.branch (old.branch + branches_of_all (bodies bs)) b;
     eaches_past = eaches_counted_all (λ (z : Bor (List Instr)). body z.now) bs k h next.each (old.each + eaches_of_all (bodies bs)) e;
   }
+
+  -- the whole stylesheet
+  pub made_so : (x : Sheet) (middle next : Numbers) (rules : Bor (List Rule)) (named : Bor (List (Bor (List Instr))))
+      → IsMarkedRules p x.rules.now (record { branch = 1; each = 0 }) middle rules.now → IsMarkedNamed p x.named.now middle next named.now
+      → see.sheet (record { modes = x.modes; eaches = next.each; rules = rules; named = named }) ≡ marked_at p (see.sheet x)
+  made_so x middle next rules named q r =
+      let in_rules : ℕ = eaches_of_all (rule_bodies (see.sheet x)) in
+      let first : middle.each ≡ in_rules = q.eaches_past ∙ none_add in_rules in
+      let all : next.each ≡ in_rules + eaches_of_all (bodies x.named.now) = r.eaches_past ∙ ap (λ z. z + eaches_of_all (bodies x.named.now)) first in
+      let names : bodies named.now ≡ map (marked_body p) (bodies_from 1 (1 + branches_of_all (rule_bodies (see.sheet x))) in_rules (bodies x.named.now)) =
+      r.means ∙ λ j. map (marked_body p) (bodies_from 1 (q.branches_past j) (first j) (bodies x.named.now)) in
+      λ j. record { modes = x.modes; eaches = all j; rules = q.means j; named = names j }
+    where
+      none_add : (n : ℕ) → 0 + n ≡ n
+      none_add n = omega arith
