@@ -1,4 +1,4 @@
-use Rattle.std.proofs.Common.{refl, ap, map, ◌++◌}
+use Rattle.std.proofs.Common.{refl, ap, map, ◌++◌, rules, arith}
 use Rattle.tc_model.specs.Views as see
 use Rattle.tc_dead.specs.Spots.{rules_from}
 use Rattle.tc_dead.specs.Marked.{marked_rule}
@@ -23,7 +23,7 @@ loop-index-preserved c =
     let q = c.in_ok-body.ensures in
     record {
       means =
-          rules_step p rs k _ c.loop-index-test.true c.loop-index.next c.marked_body.new.next c.loop-index.found.items c.push.new.self.items _ c.in_ok-number.number c.is_same-is_spot.result _ c.in_ok-push.ensures.items refl refl refl
+          rules_step p rs k _ c.loop-index-test.true c.loop-index.next c.marked_body.new.next c.loop-index.found.items c.push.new.self.items _ c.in_ok-number.number c.is_same-is_spot.result _ c.in_ok-push.ensures.items refl refl (search rules)
           c.in_ok-number.ensures c.is_same-is_spot.ensures q c.loop-index.invariant.means;
       branches_counted = branches_count_all (λ (r : Rule). see.body r.body.now) rs k _ c.loop-index.next.branch c.marked_body.new.next.branch _ c.loop-index-test.true q.past.branches c.loop-index.invariant.branches_counted;
       eaches_counted = eaches_count_all (λ (r : Rule). see.body r.body.now) rs k _ c.loop-index.next.each c.marked_body.new.next.each _ c.loop-index-test.true q.past.eaches c.loop-index.invariant.eaches_counted;
