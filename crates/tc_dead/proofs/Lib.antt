@@ -8,3 +8,4 @@ pub mod CountSteps
 pub mod PlainSeen
 pub mod LawfulMarks
 pub mod MarkSteps
+pub mod MarkSymbols

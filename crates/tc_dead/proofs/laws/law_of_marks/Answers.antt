@@ -1,9 +1,7 @@
 use Rattle.tc_dead.proofs.NumberedSpots.{rule_of_node}
-use Rattle.tc_dead.proofs.Walks.{tells}
 use Rattle.tc_dead.proofs.SameParts.{same_predicates, same_patterns, same_looks, same_moves}
 use Rattle.tc_dead.proofs.Lawful.{lawful_schema}
-use Rattle.tc_dead.proofs.LawfulMarks.{lawful_sheet}
-use Rattle.tc_dead.proofs.MarkSteps.{named_end}
+use Rattle.tc_dead.proofs.MarkSymbols.{same_symbols}
 use Rattle.tc_dead.proofs.laws.law_of_marks.Goals as goal
 
 pub returns-clause-rule : goal.returns-clause-rule
@@ -11,6 +9,9 @@ returns-clause-rule c = rule_of_node
 
 pub returns-clause-lawful : goal.returns-clause-lawful
 returns-clause-lawful c = lawful_schema
+
+pub returns-clause-symbols : goal.returns-clause-symbols
+returns-clause-symbols c = same_symbols
 
 pub returns-clause-predicates : goal.returns-clause-predicates
 returns-clause-predicates c = same_predicates

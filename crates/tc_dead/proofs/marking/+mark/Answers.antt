@@ -13,39 +13,39 @@ pub put_one-returns-in-Elem : goal.put_one-returns-in-Elem
 put_one-returns-in-Elem t c =
     on_ok c.put_all.result _ _
     (λ (h : IsPutBody (seen c.args.marker.spot) c.in-Elem.inner.now c.args.next.now c.put_all.new.next c.args.found.now.items c.put_all.new.found.items).
-      put_elem (seen c.args.marker.spot) c.args.instruction.now c.args.next.now c.put_all.new.next c.args.found.now.items c.put_all.new.found.items c.in-Elem.field-0 c.in-Elem.inner c.in-Elem.is h)
+    put_elem (seen c.args.marker.spot) c.args.instruction.now c.args.next.now c.put_all.new.next c.args.found.now.items c.put_all.new.found.items c.in-Elem.field-0 c.in-Elem.inner c.in-Elem.is h)
     c.put_all.ensures
 
 pub put_one-returns-in_ok-around-in-Copy : goal.put_one-returns-in_ok-around-in-Copy
 put_one-returns-in_ok-around-in-Copy t c =
     on_ok c.put.result _ _
     (λ (h : (rest : model.Body) → placed c.put.new.found.items rest ≡ placed c.args.found.now.items (see.instruction c.in_ok-around-in-Copy.around rest)).
-      put_copy (seen c.args.marker.spot) c.args.instruction.now c.args.next.now c.marked_body.new.next c.args.found.now.items c.put.new.found.items c.in-Copy.inner c.in_ok-copied-in-Copy.copied.now c.in_ok-around-in-Copy.around c.in-Copy.is
-      c.in_ok-copied-in-Copy.ensures c.in_ok-around-in-Copy.ensures h)
+    put_copy (seen c.args.marker.spot) c.args.instruction.now c.args.next.now c.marked_body.new.next c.args.found.now.items c.put.new.found.items c.in-Copy.inner c.in_ok-copied-in-Copy.copied.now c.in_ok-around-in-Copy.around c.in-Copy.is
+    c.in_ok-copied-in-Copy.ensures c.in_ok-around-in-Copy.ensures h)
     c.put.ensures
 
 pub put_one-returns-in_ok-otherwise-in-Choose : goal.put_one-returns-in_ok-otherwise-in-Choose
 put_one-returns-in_ok-otherwise-in-Choose t c =
     on_ok c.put-in-Choose.result _ _
     (λ (h : (rest : model.Body) → placed c.put-in-Choose.new.found.items rest ≡ placed c.args.found.now.items (see.instruction (v.Choose c.in_ok-chosen-in-Choose.chosen c.in_ok-otherwise-in-Choose.otherwise) rest)).
-      put_choose (seen c.args.marker.spot) c.args.instruction.now c.args.next.now c.marked_last.new.next c.args.found.now.items c.put-in-Choose.new.found.items c.in-Choose.branches c.in-Choose.last c.marked_branches.new.next
-      c.in_ok-chosen-in-Choose.chosen c.in_ok-otherwise-in-Choose.otherwise c.in-Choose.is c.in_ok-chosen-in-Choose.ensures c.in_ok-otherwise-in-Choose.ensures h)
+    put_choose (seen c.args.marker.spot) c.args.instruction.now c.args.next.now c.marked_last.new.next c.args.found.now.items c.put-in-Choose.new.found.items c.in-Choose.branches c.in-Choose.last c.marked_branches.new.next
+    c.in_ok-chosen-in-Choose.chosen c.in_ok-otherwise-in-Choose.otherwise c.in-Choose.is c.in_ok-chosen-in-Choose.ensures c.in_ok-otherwise-in-Choose.ensures h)
     c.put-in-Choose.ensures
 
 pub put_one-returns-in_ok-repeated-in-ForEach : goal.put_one-returns-in_ok-repeated-in-ForEach
 put_one-returns-in_ok-repeated-in-ForEach t c =
     on_ok c.put-in-ForEach.result _ _
     (λ (h : (rest : model.Body) → placed c.put-in-ForEach.new.found.items rest ≡ placed c.args.found.now.items (see.instruction (v.ForEach c.in_ok-number-in-ForEach.number c.in-ForEach.path c.in_ok-repeated-in-ForEach.repeated) rest)).
-      put_each (seen c.args.marker.spot) c.args.instruction.now c.args.next.now c.marked_body-in-ForEach.new.next c.args.found.now.items c.put-in-ForEach.new.found.items c.in-ForEach.field-0 c.in-ForEach.path c.in-ForEach.inner
-      c.in_ok-number-in-ForEach.number (record { branch = c.args.next.now.branch; each = c.take_number.new.next }) c.in_ok-repeated-in-ForEach.repeated c.in-ForEach.is c.in_ok-number-in-ForEach.ensures.ok refl c.in_ok-number-in-ForEach.ensures.counted
-      c.in_ok-repeated-in-ForEach.ensures h)
+    put_each (seen c.args.marker.spot) c.args.instruction.now c.args.next.now c.marked_body-in-ForEach.new.next c.args.found.now.items c.put-in-ForEach.new.found.items c.in-ForEach.field-0 c.in-ForEach.path c.in-ForEach.inner
+    c.in_ok-number-in-ForEach.number (record { branch = c.args.next.now.branch; each = c.take_number.new.next }) c.in_ok-repeated-in-ForEach.repeated c.in-ForEach.is c.in_ok-number-in-ForEach.ensures.ok refl c.in_ok-number-in-ForEach.ensures.counted
+    c.in_ok-repeated-in-ForEach.ensures h)
     c.put-in-ForEach.ensures
 
 pub put_one-returns-in-Text : goal.put_one-returns-in-Text
 put_one-returns-in-Text t c =
     on_ok c.put-in-Text.result _ _
     (λ (h : (rest : model.Body) → placed c.put-in-Text.new.found.items rest ≡ placed c.args.found.now.items (see.instruction c.args.instruction.now rest)).
-      put_leaf (seen c.args.marker.spot) c.args.instruction.now c.args.next.now c.args.found.now.items c.put-in-Text.new.found.items h c.in-Text.is)
+    put_leaf (seen c.args.marker.spot) c.args.instruction.now c.args.next.now c.args.found.now.items c.put-in-Text.new.found.items h c.in-Text.is)
     c.put-in-Text.ensures
 
 pub put_all-loop-instruction-init : goal.put_all-loop-instruction-init
@@ -82,8 +82,8 @@ pub marked_branch-returns : goal.marked_branch-returns
 marked_branch-returns t c =
     if_ok c.marked_body.result _ _
     (λ r (h : IsBegunBody (seen c.args.marker.spot) c.is_same-is_spot.result c.args.body.now (record { branch = c.take_number.new.next; each = c.args.next.now.each }) c.marked_body.new.next r.now).
-      branch_so (seen c.args.marker.spot) c.is_same-is_spot.result c.in_ok-number.number c.args.body.now c.args.next.now (record { branch = c.take_number.new.next; each = c.args.next.now.each }) c.marked_body.new.next r.now
-      c.in_ok-number.ensures.ok c.in_ok-number.ensures.counted refl c.is_same-is_spot.ensures h)
+    branch_so (seen c.args.marker.spot) c.is_same-is_spot.result c.in_ok-number.number c.args.body.now c.args.next.now (record { branch = c.take_number.new.next; each = c.args.next.now.each }) c.marked_body.new.next r.now
+    c.in_ok-number.ensures.ok c.in_ok-number.ensures.counted refl c.is_same-is_spot.ensures h)
     c.marked_body.ensures
 
 pub marked_branches-loop-branch-init : goal.marked_branches-loop-branch-init
