@@ -90,7 +90,8 @@ fn put_one<'b>(
     instruction: &Instr<'b>,
     next: &mut Numbers,
 ) -> Result<(), NoMemory>
-    ensures { OnOk result (IsPut (seen marker.entry.spot) instruction.now next.old next.new found.old.items found.new.items) }
+    ensures { OnOk result (IsPut
+        (seen marker.entry.spot) instruction.now next.old next.new found.old.items found.new.items) }
 {
     match instruction {
         Instr::Elem(_, inner) => put_all(marker, found, inner, next),
@@ -125,7 +126,8 @@ fn put_all<'b>(
     body: &[Instr<'b>],
     next: &mut Numbers,
 ) -> Result<(), NoMemory>
-    ensures { OnOk result (IsPutBody (seen marker.entry.spot) body.now next.old next.new found.old.items found.new.items) }
+    ensures { OnOk result (IsPutBody
+        (seen marker.entry.spot) body.now next.old next.new found.old.items found.new.items) }
 {
     for instruction in body {
         put_one(marker, found, instruction, next)?;
@@ -141,7 +143,8 @@ fn marked_body<'b>(
     body: &[Instr<'b>],
     next: &mut Numbers,
 ) -> Result<&'b [Instr<'b>], NoMemory>
-    ensures { IfOk result (λ r. IsBegunBody (seen marker.entry.spot) is_spot body.now next.old next.new r.now) }
+    ensures { IfOk result (λ r. IsBegunBody
+        (seen marker.entry.spot) is_spot body.now next.old next.new r.now) }
 {
     let mut found = Vec::new(marker.arena);
     if is_spot {
@@ -158,7 +161,8 @@ fn marked_branch<'b>(
     body: &[Instr<'b>],
     next: &mut Numbers,
 ) -> Result<&'b [Instr<'b>], NoMemory>
-    ensures { IfOk result (λ r. IsMarkedBranch (seen marker.entry.spot) body.now next.old next.new r.now) }
+    ensures { IfOk result (λ r. IsMarkedBranch
+        (seen marker.entry.spot) body.now next.old next.new r.now) }
 {
     let number = take_number(&mut next.branch)?;
     let is_spot = is_same(marker.spot, Spot::Branch(number));
@@ -172,7 +176,8 @@ fn marked_branches<'b>(
     branches: &[Branch<'b>],
     next: &mut Numbers,
 ) -> Result<&'b [Branch<'b>], NoMemory>
-    ensures { IfOk result (λ r. IsMarkedBranches (seen marker.entry.spot) branches.now next.old next.new r.now) }
+    ensures { IfOk result (λ r. IsMarkedBranches
+        (seen marker.entry.spot) branches.now next.old next.new r.now) }
 {
     let mut found = Vec::new(marker.arena);
     for branch in branches {
@@ -192,7 +197,8 @@ fn marked_last<'b>(
     last: &[Instr<'b>],
     next: &mut Numbers,
 ) -> Result<&'b [Instr<'b>], NoMemory>
-    ensures { IfOk result (λ r. IsMarkedLast (seen marker.entry.spot) last.now next.old next.new r.now) }
+    ensures { IfOk result (λ r. IsMarkedLast
+        (seen marker.entry.spot) last.now next.old next.new r.now) }
 {
     if last.is_empty() {
         return Ok(&[]);
@@ -206,7 +212,8 @@ fn marked_rules<'b>(
     rules: &[Rule<'b>],
     next: &mut Numbers,
 ) -> Result<&'b [Rule<'b>], NoMemory>
-    ensures { IfOk result (λ r. IsMarkedRules (seen marker.entry.spot) rules.now next.old next.new r.now) }
+    ensures { IfOk result (λ r. IsMarkedRules
+        (seen marker.entry.spot) rules.now next.old next.new r.now) }
 {
     let mut found = Vec::new(marker.arena);
     for (index, rule) in rules.iter().enumerate() {
@@ -229,7 +236,8 @@ fn marked_named<'b>(
     named: &[&[Instr<'b>]],
     next: &mut Numbers,
 ) -> Result<&'b [&'b [Instr<'b>]], NoMemory>
-    ensures { IfOk result (λ r. IsMarkedNamed (seen marker.entry.spot) named.now next.old next.new r.now) }
+    ensures { IfOk result (λ r. IsMarkedNamed
+        (seen marker.entry.spot) named.now next.old next.new r.now) }
 {
     let mut found = Vec::new(marker.arena);
     for (index, body) in named.iter().enumerate() {
@@ -247,8 +255,10 @@ fn marked_named<'b>(
 pub fn marked<'b>(arena: &'b Bump, sheet: &Sheet<'b>, spot: Spot) -> Result<Sheet<'b>, NoMemory>
     requires sheet { IsSheet (see.sheet sheet.now) }
     requires spot { Contains (spots_of (see.sheet sheet.now)) (seen spot) }
-    ensures made { IfOk result (λ m. (see.sheet m ≡ marked_at (seen spot) (see.sheet sheet.now)) × IsSheet (see.sheet m)) }
-    ensures tells { IfOk result (λ m. (d out : Trees) → IsResultOf (see.sheet m) d out → Tells (seen spot) (see.sheet sheet.now) d out) }
+    ensures made { IfOk result (λ m. (see.sheet m ≡ marked_at (seen spot) (see.sheet sheet.now))
+        × IsSheet (see.sheet m)) }
+    ensures tells { IfOk result (λ m. (d out : Trees) → IsResultOf (see.sheet m) d out
+        → Tells (seen spot) (see.sheet sheet.now) d out) }
 {
     let marker = Marker { arena, spot };
     let mut next = Numbers { branch: 1, each: 0 };

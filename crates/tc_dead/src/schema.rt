@@ -34,7 +34,8 @@ pub(crate) fn wrapper_name<'b>() -> Name<'b>
 
 /// One pattern or the other.
 fn either<'b>(arena: &'b Bump, one: Pat<'b>, other: Pat<'b>) -> Result<Pat<'b>, NoMemory>
-    ensures { IfOk result (λ p. see.pattern p ≡ either (see.pattern one.entry) (see.pattern other.entry)) }
+    ensures { IfOk result (λ p. see.pattern p
+        ≡ either (see.pattern one.entry) (see.pattern other.entry)) }
 {
     let both = arena.try_alloc_slice_copy(&[one, other])?;
     Ok(Pat::Choice(both))
