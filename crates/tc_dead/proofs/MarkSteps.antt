@@ -15,10 +15,16 @@ use Rattle.tc_model.specs.Views as see
 use Rattle.tc_model.proofs.ViewsBody.{see_text, see_elem, see_copy, see_apply, see_call, see_value_of, see_value_of_self, see_choose, see_for_each, left_instruction, pushed_branch}
 use Rattle.tc_dead.specs.Spots.{Spot, a_rule, a_named_body, a_branch, same_spot, is_nothing, branches_of, branches_in, eaches_of, eaches_in, branches_of_all, eaches_of_all, rules_from, bodies_from, rule_bodies}
 use Rattle.tc_dead.specs.Marked.{marked_at, wrapper_name, mark_name, mark_before, begun, marked_before, marked_branches, marked_rule, marked_body}
-use Rattle.tc_dead.specs.Views.{bodies, alone, placed, open_branches, IsPast, IsPut, IsPutBody, IsBegunBody, IsMarkedBranch, IsMarkedBranches, IsMarkedLast, IsMarkedRules, IsMarkedNamed}
+use Rattle.tc_dead.specs.Views.{bodies, alone, placed, open_branches, IsPast, IsPut, IsPutBody, IsBegunBody, IsMarkedBranches, IsMarkedLast, IsMarkedRules, IsMarkedNamed}
 use Rattle.tc_dead.specs.declared.marking.Numbers.{Numbers}
 use Rattle.tc_dead.proofs.InstructionParts.{Layer, next_branch, no_body_left, choose_branches, choose_eaches, is_something, branches_of_last, branches_by, eaches_by, branches_of_text, branches_of_elem, branches_of_copy, branches_of_apply, branches_of_call, branches_of_value, branches_of_self, branches_of_choose, branches_of_each, eaches_of_text, eaches_of_elem, eaches_of_copy, eaches_of_apply, eaches_of_call, eaches_of_value, eaches_of_self, eaches_of_choose, eaches_of_each}
 use Rattle.tc_dead.proofs.CountSteps.{branches_count, eaches_count, branches_counted, eaches_counted, branches_count_in, eaches_count_in, branches_counted_in, eaches_counted_in, branches_count_all, eaches_count_all, branches_counted_all, eaches_counted_all, rule_bodies_so}
+
+-- the body of a branch, whose number is the first, as it is marked
+pub record IsMarkedBranch (p : Spot) (b : List Instr) (old new : Numbers) (marked : List Instr) : Type 0 where
+  pub means : body marked ≡ begun (same_spot p (a_branch old.branch)) (marked_before p (old.branch + 1) old.each (body b) s.no_instruction)
+  pub branches : new.branch ≡ old.branch + 1 + branches_of (body b)
+  pub eaches : new.each ≡ old.each + eaches_of (body b)
 
 placed_append : (is js : List Instr) (rest : Body) → placed (is ++ js) rest ≡ placed is (placed js rest)
 placed_append [] js rest = refl
@@ -48,6 +54,18 @@ pub wrapped_so : (n : Name) (inner copied : Bor (List Instr)) → name n ≡ wra
 wrapped_so n inner copied e h rest =
     around n inner (v.Copy copied) (s.copy (body copied.now) s.no_instruction) h (see_copy copied s.no_instruction) rest ∙ ap (λ z. s.put_element z (s.copy (body copied.now) s.no_instruction) rest) e
 
+-- one instruction more, as it is seen
+pub copy_pushed : (old new : List Instr) (n : Name) (inner copied : Bor (List Instr)) → new ≡ old ++ v.Elem n inner ∷ [] → name n ≡ wrapper_name → inner.now ≡ v.Copy copied ∷ [] → (rest : Body)
+    → placed new rest ≡ placed old (s.put_element wrapper_name (s.copy (body copied.now) s.no_instruction) rest)
+copy_pushed old new n inner copied put e h rest = pushed_so old new (v.Elem n inner) put rest ∙ ap (placed old) (wrapped_so n inner copied e h rest)
+
+pub choice_pushed : (old new : List Instr) (cs : Bor (List Branch)) (last : Bor (List Instr)) → new ≡ old ++ v.Choose cs last ∷ [] → (rest : Body)
+    → placed new rest ≡ placed old (s.choose (branches cs.now (s.otherwise (body last.now))) rest)
+choice_pushed old new cs last put rest = pushed_so old new (v.Choose cs last) put rest ∙ ap (placed old) (see_choose cs last rest)
+
+pub each_pushed : (old new : List Instr) (k : ℕ) (w : Path) (inner : Bor (List Instr)) → new ≡ old ++ v.ForEach k w inner ∷ [] → (rest : Body) → placed new rest ≡ placed old (s.for_each k (path w) (body inner.now) rest)
+each_pushed old new k w inner put rest = pushed_so old new (v.ForEach k w inner) put rest ∙ ap (placed old) (see_for_each k w inner rest)
+
 -- what a body begins with
 pub begun_yes : (is_it : Bool) (none first found : List Instr) → is_it ≡ true → none ≡ [] → ((rest : Body) → placed first rest ≡ placed none (mark_before rest)) → found ≡ first → (rest : Body) → placed found rest ≡ begun is_it rest
 begun_yes is_it none first found so e put is rest = ap (λ z. placed z rest) is ∙ (put rest ∙ (ap (λ z. placed z (mark_before rest)) e ∙ ap (λ z. begun z rest) (sym so)))
@@ -65,14 +83,12 @@ module _ (p : Spot) where
 
   module _ (i : Instr) (old next : Numbers) (is new : List Instr) where
     -- an instruction that is put, by what it is marked to
-    put_by : (x : Instr) (f g : Layer) → ((rest : Body) → instruction i rest ≡ f rest) → ((rest : Body) → instruction x rest ≡ g rest)
+    put_by : (f g : Layer) → ((rest : Body) → instruction i rest ≡ f rest)
         → ((later rest : Body) → g (before next.branch next.each later rest) ≡ before old.branch old.each (f later) rest)
         → IsPast (alone i) old next
-        → ((rest : Body) → placed new rest ≡ placed is (instruction x rest)) → IsPut p i old next is new
-    put_by x f g e h same past put = record {
-      means = λ later rest.
-          put (before next.branch next.each later rest)
-          ∙ ap (placed is) (h (before next.branch next.each later rest) ∙ (same later rest ∙ ap (λ z. before old.branch old.each z rest) (sym (e later))));
+        → ((rest : Body) → placed new rest ≡ placed is (g rest)) → IsPut p i old next is new
+    put_by f g e same past put = record {
+      means = λ later rest. put (before next.branch next.each later rest) ∙ ap (placed is) (same later rest ∙ ap (λ z. before old.branch old.each z rest) (sym (e later)));
       past = past;
     }
 
@@ -83,12 +99,12 @@ module _ (p : Spot) where
     leaf : (j : Instr) (f : Layer) → i ≡ j → ((rest : Body) → instruction j rest ≡ f rest) → ((n e : ℕ) (later rest : Body) → f (before n e later rest) ≡ before n e (f later) rest)
         → branches_of (alone j) ≡ 0 → eaches_of (alone j) ≡ 0 → IsPut p i old old is new
     leaf j f e h same none no_each =
-        put_by i old old is new i f f (see_by i j f e h) (see_by i j f e h) (same old.branch old.each)
+        put_by i old old is new f f (see_by i j f e h) (same old.branch old.each)
         (record {
           branches = add_none old.branch ∙ ap (λ z. old.branch + z) (sym (branches_by i j 0 e none));
           eaches = add_none old.each ∙ ap (λ z. old.each + z) (sym (eaches_by i j 0 e no_each));
         })
-        put
+        (λ rest. put rest ∙ ap (placed is) (see_by i j f e h rest))
 
     -- an instruction without instructions in it
     pub put_leaf : ((x : Bor (List ℕ)) × (i ≡ v.Text x)) ⊎ (((w : Path) × (m : ℕ) × (i ≡ v.Apply w m)) ⊎ (((n : ℕ) × (i ≡ v.Call n)) ⊎ (((w : Path) × (i ≡ v.ValueOf w)) ⊎ (i ≡ v.ValueOfSelf)))) → IsPut p i old old is new
@@ -112,10 +128,10 @@ module _ (p : Spot) where
       };
     }
 
-    pub put_copy : (inner : Bor (List Instr)) (copied : List Instr) (x : Instr) → i ≡ v.Copy inner → IsBegunBody p false inner.now old next copied
-        → ((rest : Body) → instruction x rest ≡ s.put_element wrapper_name (s.copy (body copied) s.no_instruction) rest) → ((rest : Body) → placed new rest ≡ placed is (instruction x rest)) → IsPut p i old next is new
-    put_copy inner copied x e q h put =
-        put_by i old next is new x (λ r. s.copy (body inner.now) r) (λ r. s.put_element wrapper_name (s.copy (body copied) s.no_instruction) r) (see_by i (v.Copy inner) (λ r. s.copy (body inner.now) r) e (see_copy inner)) h
+    pub put_copy : (inner : Bor (List Instr)) (copied : List Instr) → i ≡ v.Copy inner → IsBegunBody p false inner.now old next copied
+        → ((rest : Body) → placed new rest ≡ placed is (s.put_element wrapper_name (s.copy (body copied) s.no_instruction) rest)) → IsPut p i old next is new
+    put_copy inner copied e q put =
+        put_by i old next is new (λ r. s.copy (body inner.now) r) (λ r. s.put_element wrapper_name (s.copy (body copied) s.no_instruction) r) (see_by i (v.Copy inner) (λ r. s.copy (body inner.now) r) e (see_copy inner))
         (λ later rest. λ j. s.put_element wrapper_name (s.copy (q.means j) s.no_instruction) (before (q.past.branches j) (q.past.eaches j) later rest))
         (record {
           branches = q.past.branches ∙ ap (λ z. old.branch + z) (sym (branches_by i (v.Copy inner) (branches_of (body inner.now)) e (branches_of_copy inner)));
@@ -125,14 +141,14 @@ module _ (p : Spot) where
 
     pub put_choose : (bs : Bor (List Branch)) (last : Bor (List Instr)) (middle : Numbers) (cs : Bor (List Branch)) (other : Bor (List Instr)) → i ≡ v.Choose bs last
         → IsMarkedBranches p bs.now old middle cs.now → IsMarkedLast p last.now middle next other.now
-        → ((rest : Body) → placed new rest ≡ placed is (instruction (v.Choose cs other) rest)) → IsPut p i old next is new
+        → ((rest : Body) → placed new rest ≡ placed is (s.choose (branches cs.now (s.otherwise (body other.now))) rest)) → IsPut p i old next is new
     put_choose bs last middle cs other e q r put =
         let end : Branches = s.otherwise (body last.now) in
         let x : Branches = branches bs.now end in
         let whole : branches cs.now (s.otherwise (body other.now)) ≡ marked_branches p old.branch old.each x = ap (branches cs.now) r.means ∙ q.means end in
         let many : next.branch ≡ old.branch + branches_in x = omega (arith, q.branches_past, r.branches_past, choose_branches bs.now (body last.now)) in
         let each : next.each ≡ old.each + eaches_in x = omega (arith, q.eaches_past, r.eaches_past, choose_eaches bs.now (body last.now)) in
-        put_by i old next is new (v.Choose cs other) (λ t. s.choose x t) (λ t. s.choose (branches cs.now (s.otherwise (body other.now))) t) (see_by i (v.Choose bs last) (λ t. s.choose x t) e (see_choose bs last)) (see_choose cs other)
+        put_by i old next is new (λ t. s.choose x t) (λ t. s.choose (branches cs.now (s.otherwise (body other.now))) t) (see_by i (v.Choose bs last) (λ t. s.choose x t) e (see_choose bs last))
         (λ later rest. λ j. s.choose (whole j) (before (many j) (each j) later rest))
         (record {
           branches = omega (arith, many, choose_branches bs.now (body last.now), branches_by i (v.Choose bs last) (branches_in (open_branches bs.now) + branches_in end) e (branches_of_choose bs last));
@@ -142,13 +158,13 @@ module _ (p : Spot) where
 
     pub put_each : (k : ℕ) (w : Path) (inner : Bor (List Instr)) (number : ℕ) (middle : Numbers) (repeated : Bor (List Instr)) → i ≡ v.ForEach k w inner → number ≡ old.each → middle.branch ≡ old.branch → middle.each ≡ old.each + 1
         → IsBegunBody p false inner.now middle next repeated.now
-        → ((rest : Body) → placed new rest ≡ placed is (instruction (v.ForEach number w repeated) rest)) → IsPut p i old next is new
+        → ((rest : Body) → placed new rest ≡ placed is (s.for_each number (path w) (body repeated.now) rest)) → IsPut p i old next is new
     put_each k w inner number middle repeated e is_number same more q put =
         let many : next.branch ≡ old.branch + branches_of (body inner.now) = q.past.branches ∙ ap (λ z. z + branches_of (body inner.now)) same in
         let each : next.each ≡ old.each + 1 + eaches_of (body inner.now) = q.past.eaches ∙ ap (λ z. z + eaches_of (body inner.now)) more in
         let content : body repeated.now ≡ before old.branch (old.each + 1) (body inner.now) s.no_instruction = q.means ∙ λ j. before (same j) (more j) (body inner.now) s.no_instruction in
-        put_by i old next is new (v.ForEach number w repeated) (λ r. s.for_each k (path w) (body inner.now) r) (λ r. s.for_each number (path w) (body repeated.now) r)
-        (see_by i (v.ForEach k w inner) (λ r. s.for_each k (path w) (body inner.now) r) e (see_for_each k w inner)) (see_for_each number w repeated)
+        put_by i old next is new (λ r. s.for_each k (path w) (body inner.now) r) (λ r. s.for_each number (path w) (body repeated.now) r)
+        (see_by i (v.ForEach k w inner) (λ r. s.for_each k (path w) (body inner.now) r) e (see_for_each k w inner))
         (λ later rest. λ j. s.for_each (is_number j) (path w) (content j) (before (many j) (each j) later rest))
         (record {
           branches = many ∙ ap (λ z. old.branch + z) (sym (branches_by i (v.ForEach k w inner) (branches_of (body inner.now)) e (branches_of_each k w inner)));
@@ -179,10 +195,10 @@ module _ (p : Spot) where
   }
 
   -- the body of a branch
-  pub branch_so : (is_it : Bool) (number : ℕ) (js : List Instr) (old middle next : Numbers) (put : List Instr) → number ≡ old.branch → middle.branch ≡ old.branch + 1 → middle.each ≡ old.each
-      → is_it ≡ same_spot p (a_branch number) → IsBegunBody p is_it js middle next put → IsMarkedBranch p js old next put
-  branch_so is_it number js old middle next put is_number more same is q = record {
-    means = q.means ∙ λ j. begun ((is ∙ ap (λ z. same_spot p (a_branch z)) is_number) j) (before (more j) (same j) (body js) s.no_instruction);
+  pub branch_so : (is_it : Bool) (js : List Instr) (old middle next : Numbers) (put : List Instr) → is_it ≡ same_spot p (a_branch old.branch) → middle.branch ≡ old.branch + 1 → middle.each ≡ old.each
+      → IsBegunBody p is_it js middle next put → IsMarkedBranch p js old next put
+  branch_so is_it js old middle next put is more same q = record {
+    means = q.means ∙ λ j. begun (is j) (before (more j) (same j) (body js) s.no_instruction);
     branches = q.past.branches ∙ ap (λ z. z + branches_of (body js)) more;
     eaches = q.past.eaches ∙ ap (λ z. z + eaches_of (body js)) same;
   }

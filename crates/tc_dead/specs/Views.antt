@@ -56,12 +56,6 @@ pub record IsBegunBody (p : spots.Spot) (is_spot : Bool) (b : List Instr) (old n
   pub means : body marked ≡ begun is_spot (marked_before p old.branch old.each (body b) s.no_instruction)
   pub past : IsPast (body b) old new
 
--- the body of a branch, whose number is the first
-pub record IsMarkedBranch (p : spots.Spot) (b : List Instr) (old new : Numbers) (marked : List Instr) : Type 0 where
-  pub means : body marked ≡ begun (same_spot p (spots.a_branch old.branch)) (marked_before p (old.branch + 1) old.each (body b) s.no_instruction)
-  pub branches : new.branch ≡ old.branch + 1 + branches_of (body b)
-  pub eaches : new.each ≡ old.each + eaches_of (body b)
-
 -- branches, whatever stands behind them
 pub record IsMarkedBranches (p : spots.Spot) (bs : List Branch) (old new : Numbers) (marked : List Branch) : Type 0 where
   pub means : (rest : Branches) → branches marked (marked_branches p new.branch new.each rest) ≡ marked_branches p old.branch old.each (branches bs rest)

@@ -10,14 +10,14 @@ use Rattle.tc_dead.proofs.marking.marked_named.Goals as goal
 
 pub loop-index-init : goal.loop-index-init
 loop-index-init c = record {
-  means = ap (λ z. bodies z ++ map (marked_body (seen c.args.marker.spot)) (bodies_from 1 c.args.next.now.branch c.args.next.now.each (bodies c.args.named.now))) c.new-found.ensures.items;
+  means = ap (λ z. bodies z ++ map (marked_body (seen c.args.marker.now.spot)) (bodies_from 1 c.args.next.now.branch c.args.next.now.each (bodies c.args.named.now))) c.new-found.ensures.items;
   branches_counted = refl;
   eaches_counted = refl;
 }
 
 pub loop-index-preserved : goal.loop-index-preserved
 loop-index-preserved c =
-    let p = seen c.args.marker.spot in
+    let p = seen c.args.marker.now.spot in
     let bs = c.args.named.now in
     let k = c.loop-index.index in
     let q = c.in_ok-body.ensures in
@@ -31,5 +31,5 @@ loop-index-preserved c =
 
 pub returns : goal.returns
 returns c =
-    named_end (seen c.args.marker.spot) c.args.named.now c.loop-index.index c.loop-index-test.false c.args.next.now c.loop-index.next c.loop-index.found.items c.into_bump_slice.result.now c.loop-index.invariant.means
+    named_end (seen c.args.marker.now.spot) c.args.named.now c.loop-index.index c.loop-index-test.false c.args.next.now c.loop-index.next c.loop-index.found.items c.into_bump_slice.result.now c.loop-index.invariant.means
     c.loop-index.invariant.branches_counted c.loop-index.invariant.eaches_counted c.into_bump_slice.ensures
