@@ -1,7 +1,8 @@
 -- What a call can answer: the status and the lines of each answer.
 use Rattle.std.specs.Prelude.{ℕ, List, ◌++◌, codes, decimal}
-use Rattle.tc_answer.specs.Lines.{RowCount, Rejection, line, limit_line, limit_word, count_word, safe_line, unsafe_lines, unsafe_large_lines, included_line, not_included_lines, different_lines, rejected_line}
-use Rattle.tc_answer.specs.declared.limits.TheConstants.{MOST_SHOWN_NODES, LONGEST_CERTIFICATE, LONGEST_TAG, MOST_NAMES}
+use Rattle.tc_decide.specs.RowCounts.{RowCount}
+use Rattle.tc_answer.specs.Lines.{Rejection, line, limit_line, limit_word, count_word, safe_line, unsafe_lines, unsafe_large_lines, included_line, not_included_lines, different_lines, rejected_line}
+use Rattle.tc_decide.specs.declared.limits.TheConstants.{MOST_SHOWN_NODES, LONGEST_CERTIFICATE, LONGEST_TAG, MOST_NAMES}
 use Rattle.tc_answer.specs.declared.status.Status.{Status}
 use Rattle.tc_answer.specs.declared.status.Status.TheVariants.{Yes, No, Usage, Refused, Limit, ReadFault}
 use Rattle.tc_base.specs.declared.Limit as kinds

@@ -8,8 +8,6 @@ use Rattle.tc_answer.specs.Words as w
 use Rattle.tc_answer.specs.declared.answer.Answer.{Answer}
 use Rattle.tc_answer.specs.declared.answer.Rejection.{Rejection}
 use Rattle.tc_answer.specs.declared.answer.Rejection.TheVariants.{Form, Fit, Empty, Text, Append, Wrap, Root}
-use Rattle.tc_answer.specs.declared.answer.RowCount.{RowCount}
-use Rattle.tc_answer.specs.declared.answer.RowCount.TheVariants.{Trees, Hedges, Outputs}
 use Rattle.tc_answer.specs.declared.answer.Text as written
 use Rattle.tc_answer.specs.declared.answer.Text.TheVariants.{Fixed, Made}
 use Rattle.tc_answer.specs.declared.read.Operand.{Operand}
@@ -24,11 +22,6 @@ use Rattle.tc_model.specs.Views.{name}
 abbrev pub text : written.Text → List ℕ
 text (Fixed bytes) = bytes.now
 text (Made bytes) = bytes.items
-
-abbrev pub row_count : RowCount → l.RowCount
-row_count Trees = l.trees
-row_count Hedges = l.hedges
-row_count Outputs = l.outputs
 
 abbrev pub rejection : Rejection → l.Rejection
 rejection (Form line) = l.form_fails line

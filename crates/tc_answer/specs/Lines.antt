@@ -2,6 +2,7 @@
 use Rattle.std.specs.Prelude.{◌≡◌, ◌<◌, ◌+◌, ℕ, List, [], ◌∷◌, ◌++◌, length, slice_index, codes, decimal}
 use Rattle.tc_base.specs.declared.Limit.{Limit}
 use Rattle.tc_base.specs.declared.Limit.TheVariants.{Pattern, Depth, Elements, States, Symbols, Predicates, Ancestors, Selects, Calls, Entries}
+use Rattle.tc_decide.specs.RowCounts.{RowCount, trees, hedges, outputs}
 use Rattle.tc_model.specs.Names.{ExpandedName}
 use Rattle.tc_model.specs.Printed.{printed}
 use Rattle.tc_model.specs.Trees.{Trees}
@@ -25,12 +26,6 @@ limit_word Ancestors = codes "ancestors"
 limit_word Selects = codes "selects"
 limit_word Calls = codes "calls"
 limit_word Entries = codes "entries"
-
--- the numbers of which one passes its limit: of rows of live trees, of rows of live lists of trees, of sets of pairs in them
-pub data RowCount : Type 0 where
-  trees : RowCount
-  hedges : RowCount
-  outputs : RowCount
 
 abbrev pub count_word : RowCount → List ℕ
 count_word trees = codes "trees"

@@ -5,15 +5,17 @@ ghost use Rattle.tc_model.specs.Printed.{printed};
 ghost use Rattle.tc_model.specs.Views as see;
 ghost use Rattle.tc_model.specs.Views.{trees};
 ghost use Rattle.tc_answer.specs.Answers as a;
-ghost use Rattle.tc_answer.specs.AnswersSeen.{text as see_text, row_count, rejection};
+ghost use Rattle.tc_answer.specs.AnswersSeen.{text as see_text, rejection};
+ghost use Rattle.tc_decide.specs.RowCounts.{row_count};
 ghost use Rattle.tc_answer.specs.Lines.{line, limit_word, limit_line, count_word, namespace_text};
 
 use crate::buffer::Buffer;
-use crate::limits::{LONGEST_CERTIFICATE, LONGEST_TAG, MOST_NAMES, MOST_SHOWN_NODES};
 use crate::status::Status;
 use std::alloc::Global;
 use tc_base::limits::{LONGEST_FILE, MOST_OPEN, MOST_WORK};
 use tc_base::{Limit, NoMemory, Place};
+use tc_decide::RowCount;
+use tc_decide::limits::{LONGEST_CERTIFICATE, LONGEST_TAG, MOST_NAMES, MOST_SHOWN_NODES};
 use tc_model::{Name, Node};
 use tc_read::Reason;
 
@@ -44,17 +46,6 @@ impl Text {
 pub struct Answer {
     pub status: Status,
     pub text: Text,
-}
-
-/// What is counted of rows.
-#[derive(Clone, Copy)]
-pub enum RowCount {
-    /// Rows of live trees.
-    Trees,
-    /// Rows of live lists of trees.
-    Hedges,
-    /// Sets of pairs of states of the output in them.
-    Outputs,
 }
 
 /// The first rule of certificates that fails. Lines have the numbers of a certificate's text, from 1.

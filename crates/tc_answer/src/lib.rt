@@ -6,14 +6,13 @@ mod answer;
 mod buffer;
 mod command;
 pub mod laws;
-pub mod limits;
 mod read;
 mod sources;
 mod status;
 mod words;
 mod write;
 
-pub use answer::{Answer, Rejection, RowCount, Text};
+pub use answer::{Answer, Rejection, Text};
 pub use command::{Command, Triple, read_words};
 pub use read::{Operand, Operands, Unread, read_operand, read_pair, read_triple, read_verified};
 pub use sources::{Source, schema_root};

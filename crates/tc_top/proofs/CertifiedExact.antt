@@ -6,7 +6,7 @@ use Rattle.tc_answer.specs.SchemaWords.{file_of}
 use Rattle.tc_answer.specs.Words as w
 use Rattle.tc_answer.specs.Words.{Words, operands_of}
 use Rattle.tc_answer.specs.Reading.{AreRead}
-use Rattle.tc_answer.specs.declared.limits.TheConstants.{LONGEST_CERTIFICATE}
+use Rattle.tc_decide.specs.declared.limits.TheConstants.{LONGEST_CERTIFICATE}
 use Rattle.tc_answer.specs.declared.status.Status.{Status}
 use Rattle.tc_answer.specs.declared.status.Status.TheVariants.{Yes, No, Limit}
 use Rattle.tc_answer.proofs.OneCommand.{one_command}
@@ -27,14 +27,17 @@ use Rattle.tc_top.specs.Answers.{IsAnswerTo, proved, verified, upgraded, IsAnswe
 use Rattle.tc_top.specs.CertifiedFiles.{HoldTriple, HoldShort, ProvesFiles, VerifiesFiles, VerifiesShortFiles, UpgradesFiles, HasShortCertificate, DecidesProof, IsCertificateText, IsRejectionOf, of_form, of_rule, DecidesCertificate, DecidesUpgrade, ProvedIsAccepted}
 use Rattle.tc_top.specs.Causes.{all_three}
 use Rattle.tc_top.specs.Certifying.{IsRejectedFor, IsCertificateOf, IsLeastOf, IsOverlong, Certifies, as_checked, certifies, overlong, Accepts, stops_before_rows, accepts, no_text, no_certificate, Proves, Verifies, Upgrades, upgrades, too_long, no_form}
-use Rattle.tc_top.specs.Checking.{most_rows, IsWithinTripleLimits, PassesTripleLimit, HasFewRows}
+use Rattle.tc_top.specs.Checking.{most_rows}
+use Rattle.tc_decide.specs.Checking.{IsWithinTripleLimits, PassesTripleLimit, HasFewRows}
 use Rattle.tc_top.specs.Headline.{IsCutShort, DecidesSafety, IsLimited}
 use Rattle.tc_top.specs.OneAnswer.{IsOfFault}
 use Rattle.tc_top.proofs.Exact.{read_all, held_decided}
 use Rattle.tc_top.proofs.Headline.{cut_short, told_of_file, not_no, not_limit, no_limit, few_not_limited, decides, before_rows_lines}
 use Rattle.tc_top.proofs.OneCertifying.{only_yes, short_overlong, accepted_rejected}
 use Rattle.tc_top.proofs.CertifiedTexts.{safe_certified, proved_accepted}
-use Rattle.tc_top.proofs.OneCheck.{not_both, over_triple, one_triple_limit, decided_of}
+use Rattle.tc_decide.proofs.Deciding.{not_both}
+use Rattle.tc_decide.proofs.Passing.{over_triple}
+use Rattle.tc_top.proofs.OneCheck.{one_triple_limit, decided_of}
 
 -- `prove`
 

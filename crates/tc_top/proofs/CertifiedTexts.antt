@@ -12,10 +12,11 @@ use Rattle.tc_read.specs.Sheets.{IsSheetOf}
 use Rattle.tc_rows.proofs.Derived.{certificate_is_safe}
 use Rattle.tc_top.specs.Causes.{OfTexts, all_three}
 use Rattle.tc_top.specs.Certifying.{IsCertificateOf, IsLeastOf, Certifies, as_checked, certifies, Accepts, stops_before_rows, accepts, no_text, no_certificate}
-use Rattle.tc_top.specs.Checking.{IsWithinTripleLimits}
+use Rattle.tc_decide.specs.Checking.{IsWithinTripleLimits}
 use Rattle.tc_top.specs.SchemaTexts.{SchemaText}
-use Rattle.tc_top.proofs.Checked.{of_triple, to_triple}
-use Rattle.tc_top.proofs.OneCheck.{decided_of, over_triple}
+use Rattle.tc_decide.proofs.Triples.{of_triple, to_triple}
+use Rattle.tc_top.proofs.OneCheck.{decided_of}
+use Rattle.tc_decide.proofs.Passing.{over_triple}
 
 module _ {i o : Grammar} {s : Sheet} where
   -- the least certificate of what is safe is one

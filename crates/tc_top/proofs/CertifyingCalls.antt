@@ -1,8 +1,8 @@
 -- What the calls tell of certificates is decided of texts.
 use Rattle.std.proofs.Common.{◌≡◌, ◌<◌, ◌≤◌, ℕ, List, refl, sym, ap, ◌∙◌, subst, length}
 use Rattle.tc_answer.specs.Answers.{Answer, certificate, certificate_limit, rows_limit, counterexample_limit, rejected, status_of}
-use Rattle.tc_answer.specs.Lines as count
-use Rattle.tc_answer.specs.Lines.{RowCount, fit_fails}
+use Rattle.tc_decide.specs.RowCounts.{RowCount}
+use Rattle.tc_answer.specs.Lines.{fit_fails}
 use Rattle.tc_answer.specs.declared.status.Status.TheVariants.{Yes, Limit}
 use Rattle.tc_beh.specs.Machines.{IsShapeOf}
 use Rattle.tc_beh.specs.declared.machine.Shape.{Shape}
@@ -19,8 +19,9 @@ use Rattle.tc_rows.specs.Triples.{Triple, IsTriple}
 use Rattle.tc_top.specs.AnswersSeen.{IsRunOf, run_within, run_large}
 use Rattle.tc_top.specs.Causes.{Finds, passes_rows}
 use Rattle.tc_top.specs.Certifying.{Certifies, as_checked, certifies, overlong, long_text, long_outputs, Accepts, no_certificate, Proves, Upgrades, upgrades}
-use Rattle.tc_top.specs.Checking.{IsWithinTripleLimits, HasManyRows, most_of}
-use Rattle.tc_top.proofs.Checked.{itself, few_rows, found_far, found_unsafe}
+use Rattle.tc_decide.specs.Checking.{IsWithinTripleLimits, HasManyRows, most_of}
+use Rattle.tc_decide.proofs.Triples.{itself, few_rows}
+use Rattle.tc_top.proofs.Checked.{found_far, found_unsafe}
 use Rattle.tc_verify.specs.Fits.{sizes, shape_sizes}
 use Rattle.tc_verify.proofs.Verified.{unfit_rejected}
 use Rattle.tc_verify.specs.declared.reject.Reject.{Reject}

@@ -4,7 +4,7 @@ use Rattle.tc_alpha.proofs.Members.{has_from_contains}
 use Rattle.tc_answer.specs.Answers.{Answer, included, not_included, equal, first_only, second_only, counterexample_limit, over_limit}
 use Rattle.tc_answer.specs.AnswersSeen.{Says}
 use Rattle.tc_answer.specs.declared.answer.Answer.{Answer as Said}
-use Rattle.tc_answer.specs.declared.limits.TheConstants.{MOST_ROWS, MOST_SHOWN_NODES}
+use Rattle.tc_decide.specs.declared.limits.TheConstants.{MOST_ROWS, MOST_SHOWN_NODES}
 use Rattle.tc_auto.specs.Stands as a
 use Rattle.tc_auto.specs.declared.auto.Auto.{Auto}
 use Rattle.tc_base.specs.declared.limits.TheConstants.{MOST_INPUT_STATES}
@@ -24,11 +24,11 @@ use Rattle.tc_model.specs.WellFormed.{ForEach, IsSheet, eaches_of}
 use Rattle.tc_read.specs.declared.schemas.Schema.{Schema}
 use Rattle.tc_base.specs.declared.Limit.{Limit}
 use Rattle.tc_top.specs.Comparing.{Question, inclusion, equality, PassesPairLimit, FindsBoth, inclusion_passes, equality_passes, AreWithinPairLimits, HasManyCovers, many_trees, many_hedges, HasFewCovers, symbols_of_both, forward, backward, IsOfOne, FindsInclusion, finds_included, finds_not_included, finds_none_shown, FindsEquality, finds_equal, finds_first_only, finds_second_only, finds_no_one_shown}
-use Rattle.tc_top.specs.MachinesSeen.{IsSpelled, IsReadOf}
-use Rattle.tc_top.specs.Limits.{IsWithinLimits, AreFew}
+use Rattle.tc_decide.specs.MachinesSeen.{IsLawful, IsReadOf}
+use Rattle.tc_decide.specs.Limits.{IsWithinLimits, AreFew}
 use Rattle.tc_top.specs.Pairs.{HasFewNodes, IsPairOf}
 use Rattle.tc_top.specs.declared.compare.Pair.{Pair}
-use Rattle.tc_top.proofs.MachineLimits.{lawful}
+use Rattle.tc_decide.proofs.MachineLimits.{lawful}
 use Rattle.tc_top.specs.Nothing.{no_rules}
 
 -- a stylesheet without rules is well-formed
@@ -49,13 +49,13 @@ no_rules_lawful = record {
 pub symbols_beside : (g h : Grammar) → symbols_of g h no_rules ≡ symbols_of_both g h
 symbols_beside g h = ap (λ mentions. in_order mention_cmp (flat_map with_namespace (mentions_in_grammar g ++ mentions))) (append-nil (mentions_in_grammar h))
 
-module _ (g h : Grammar) (first second : Schema) (one_spelled : IsSpelled first) (other_spelled : IsSpelled second) (one_read : IsReadOf g first) (other_read : IsReadOf h second)
+module _ (g h : Grammar) (first second : Schema) (one_is : IsLawful first) (other_is : IsLawful second) (one_read : IsReadOf g first) (other_read : IsReadOf h second)
     (one_within : IsWithinLimits g input MOST_INPUT_STATES) (other_within : IsWithinLimits h input MOST_INPUT_STATES) where
   one_lawful : IsGrammar g × IsStart g.start
-  one_lawful = lawful g first one_spelled one_read one_within.counts
+  one_lawful = lawful g first one_is one_read one_within.counts
 
   other_lawful : IsGrammar h × IsStart h.start
-  other_lawful = lawful h second other_spelled other_read other_within.counts
+  other_lawful = lawful h second other_is other_read other_within.counts
 
   are_forward : AreSchemas (forward g h)
   are_forward = record {

@@ -6,7 +6,7 @@ use Rattle.tc_io.specs.declared.StoreFault.{StoreFault}
 use Rattle.tc_io.specs.declared.StoreFault.TheVariants.{Missing, Failed, TooLong, NoMemory}
 use Rattle.tc_top.specs.Checking.{most_rows}
 use Rattle.tc_top.specs.Demo.{demo_schema, demo_sheet, input_name, output_name, sheet_name}
-use Rattle.tc_answer.specs.declared.limits.TheConstants.{MOST_ROWS}
+use Rattle.tc_decide.specs.declared.limits.TheConstants.{MOST_ROWS}
 use Rattle.tc_top.specs.OneAnswer.{AreAlike, same_answer, IsOfFault}
 use Rattle.tc_answer.specs.Words.{Command, Source, check, run, valid, demo, Words, IsNoCommand, operands_of}
 use Rattle.tc_answer.specs.Reading.{StopsAt, at_first, past_first, IsUnreadable, AreRead}

@@ -12,7 +12,7 @@ use Rattle.tc_top.specs.Answers.{IsAnswerTo, validated_in_pieces, IsAnswer}
 use Rattle.tc_top.specs.FilesInPieces.{ValidatesFilesInPieces, IsLimitedInPieces, limited_by_schema, limited_by_measure, DecidesValidityInPieces}
 use Rattle.tc_top.specs.Headline.{IsCutShort}
 use Rattle.tc_top.specs.InPieces.{DecidesInPieces, schema_limited, text_refused, tag_passed, names_passed, document_valid, document_invalid, ValidatesInPieces}
-use Rattle.tc_top.specs.Limits.{IsValidityWithin}
+use Rattle.tc_decide.specs.Limits.{IsValidityWithin}
 use Rattle.tc_top.specs.OneAnswer.{IsOfFault}
 use Rattle.tc_answer.proofs.ReadsOnce.{no_file, holds, none_long, is_short}
 use Rattle.tc_top.proofs.Exact.{read_all}

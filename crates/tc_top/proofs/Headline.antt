@@ -12,7 +12,8 @@ use Rattle.tc_model.specs.Printed.{printed}
 use Rattle.tc_model.specs.Safety.{IsSafe}
 use Rattle.tc_print.specs.ReadBack.{nesting, IsReadAs}
 use Rattle.tc_print.proofs.ReadBack.{read_back}
-use Rattle.tc_top.specs.Checking.{most_rows, IsWithinTripleLimits, HasFewRows, AreRowCounts, IsLeastCounter, HasSmallCounter, HasLargeCounters}
+use Rattle.tc_top.specs.Checking.{most_rows}
+use Rattle.tc_decide.specs.Checking.{IsWithinTripleLimits, HasFewRows, AreRowCounts, IsLeastCounter, HasSmallCounter, HasLargeCounters}
 use Rattle.tc_top.specs.Headline.{IsCutShort, ChecksFiles, ChecksShortFiles, ShowsCounterexample, shows_both, shows_document, ShowsRun, shows_result, shows_large, IsLimited, limited_before_rows, limited_in_rows, limited_in_nodes, DecidesSafety, ValidatesFiles, DecidesValidity, RunsFiles, GivesResult}
 use Rattle.tc_answer.specs.Answers.{Answer, usage, cannot_read, file_limit, safe, unsafe, unsafe_large, rows_limit, counterexample_limit, certificate, certificate_limit, accepted, rejected, included, not_included, equal, first_only, second_only, refused, over_limit, is_valid, is_invalid, tag_limit, names_limit, has_result, work_limit, open_limit, status_of, text_of}
 use Rattle.tc_top.specs.Answers.{IsAnswerTo, checked, ran, validated, shown, IsAnswer, Ends, KeepsToLimits}
@@ -22,19 +23,22 @@ use Rattle.tc_top.specs.OneAnswer.{AreAlike, same_answer, GivesOneLike, IsOfFaul
 use Rattle.tc_answer.specs.declared.answer.Answer.{Answer as Said}
 use Rattle.tc_answer.specs.declared.status.Status.{Status}
 use Rattle.tc_answer.specs.declared.status.Status.TheVariants.{Yes, No, Limit}
-use Rattle.tc_top.specs.Limits.{IsRunWithin}
+use Rattle.tc_decide.specs.Limits.{IsRunWithin}
 use Rattle.tc_model.specs.RncText.{RncText}
 use Rattle.tc_read.specs.Sheets.{IsSheetOf}
 use Rattle.tc_top.specs.SchemaTexts.{SchemaText, compact}
 use Rattle.tc_top.specs.Demo.{demo_schema, demo_sheet, input_name, output_name, sheet_name}
-use Rattle.tc_answer.specs.declared.limits.TheConstants.{MOST_ROWS}
+use Rattle.tc_decide.specs.declared.limits.TheConstants.{MOST_ROWS}
 use Rattle.tc_answer.specs.Words.{Words, check, run, valid, demo, schema, plain}
 use Rattle.tc_answer.proofs.ReadsOnce.{AreHeld, no_file, holds, AreShort, none_long, is_short}
 use Rattle.tc_top.proofs.Exact.{Agrees, decided_only, shown_reads, read_all, held_decided}
-use Rattle.tc_top.proofs.OneCheck.{not_both, over_triple, one_triple_limit, near_far, decided_of}
+use Rattle.tc_decide.proofs.Deciding.{not_both, near_far}
+use Rattle.tc_decide.proofs.Passing.{over_triple}
+use Rattle.tc_top.proofs.OneCheck.{one_triple_limit, decided_of}
 use Rattle.tc_answer.proofs.OneCommand.{one_command}
 use Rattle.tc_top.proofs.OneValidity.{Settles, settles_valid, settles_invalid, settles}
-use Rattle.tc_top.proofs.OneRun.{one_result, runs_of, not_within, not_few, not_low}
+use Rattle.tc_decide.proofs.Sheets.{one_result}
+use Rattle.tc_top.proofs.OneRun.{runs_of, not_within, not_few, not_low}
 
 -- a call that tells of a fault of reading is cut short
 pub cut_short : {rose : Type 0} (status : Status) (answer : Answer) → status ≡ status_of answer → IsOfFault rose answer → IsCutShort status rose

@@ -24,14 +24,14 @@ use Rattle.tc_stream.specs.XmlTextMeasures.{tag, names, IsGood, PassesFirst}
 use Rattle.tc_stream.specs.declared.faults.StreamFault.{StreamFault}
 use Rattle.tc_stream.specs.declared.faults.StreamFault.TheVariants as faults
 use Rattle.tc_top.specs.InPieces.{IsRefusedInPieces, DecidesInPieces, text_refused, tag_passed, names_passed, document_valid, document_invalid}
-use Rattle.tc_top.specs.Limits.{IsValidityWithin, IsWithinLimits, AreFew, symbols_of_schema}
-use Rattle.tc_top.specs.MachinesSeen.{IsSpelled, IsReadOf}
+use Rattle.tc_decide.specs.Limits.{IsValidityWithin, IsWithinLimits, AreFew, symbols_of_schema}
+use Rattle.tc_decide.specs.MachinesSeen.{IsLawful, IsReadOf}
 use Rattle.tc_top.specs.PiecesSeen.{IsSchemaParts, SaysFault}
 use Rattle.tc_top.specs.declared.pieces.SchemaParts.{SchemaParts}
-use Rattle.tc_top.proofs.MachineLimits.{lawful}
+use Rattle.tc_decide.proofs.MachineLimits.{lawful}
 use Rattle.tc_stream.proofs.RefusedInPieces.{causes_of_whole}
 
-pub is_parts : (x : Grammar) (s : Schema) → IsSpelled s → IsReadOf x s → IsWithinLimits x input MOST_INPUT_STATES → (automaton : Auto) (symbols : List Mention) → a.Stands input x automaton
+pub is_parts : (x : Grammar) (s : Schema) → IsLawful s → IsReadOf x s → IsWithinLimits x input MOST_INPUT_STATES → (automaton : Auto) (symbols : List Mention) → a.Stands input x automaton
     → symbols ≡ symbols_of_schema x → AreFew symbols → IsSchemaParts x (record { automaton = automaton; alphabet = symbols })
 is_parts x s spelled read within automaton symbols stands same few = record {
   within_limits = record { schema = within; symbols = subst AreFew same few };

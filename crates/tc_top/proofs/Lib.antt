@@ -7,7 +7,6 @@ pub mod SchemaTextLaws
 pub mod OneValidity
 pub mod OneRun
 pub mod Checked
-pub mod MachineLimits
 pub mod Compared
 pub mod OneCheck
 pub mod OneComparison
@@ -22,7 +21,7 @@ pub mod FilesInPieces
 pub mod RejectedAlike
 pub mod OneCertifying
 pub mod CertifiedTexts
-pub mod Undecided
+pub mod Decided
 pub mod Unaccepted
 pub mod TextsDecided
 pub mod CertifiedExact

@@ -3,7 +3,7 @@ use Rattle.std.proofs.Common.{◌≡◌, ◌∙◌, ap, append-nil, flat_map}
 use Rattle.tc_model.specs.Grammars.{Grammar}
 use Rattle.tc_model.specs.Sheets.{Sheet}
 use Rattle.tc_model.specs.Symbols.{mention_cmp, in_order, with_namespace, mentions_in_grammar, symbols_of}
-use Rattle.tc_top.specs.Limits.{symbols_of_schema, symbols_of_sheet}
+use Rattle.tc_decide.specs.Limits.{symbols_of_schema, symbols_of_sheet}
 use Rattle.tc_top.specs.Nothing.{no_schema, no_rules}
 
 pub schema_alone : (g : Grammar) → symbols_of g no_schema no_rules ≡ symbols_of_schema g

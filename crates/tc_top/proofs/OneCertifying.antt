@@ -2,7 +2,7 @@
 use Rattle.std.proofs.Common.{◌≡◌, ◌≤◌, ℕ, List, refl, sym, ap, ◌∙◌, subst, length, arith}
 use Rattle.tc_answer.specs.Answers.{Answer, certificate, accepted, rejected, status_of}
 use Rattle.tc_answer.specs.Lines.{Rejection, form_fails}
-use Rattle.tc_answer.specs.declared.limits.TheConstants.{LONGEST_CERTIFICATE}
+use Rattle.tc_decide.specs.declared.limits.TheConstants.{LONGEST_CERTIFICATE}
 use Rattle.tc_answer.specs.declared.status.Status.TheVariants.{Yes}
 use Rattle.tc_base.specs.declared.limits.TheConstants.{LONGEST_FILE}
 use Rattle.tc_cert.specs.Fronts.{IsFirstFault}
@@ -24,9 +24,11 @@ use Rattle.tc_verify.specs.Rejects.{IsRejected}
 use Rattle.tc_verify.specs.declared.reject.Reject.{Reject}
 use Rattle.tc_top.specs.Causes.{Finds, passes_before_rows, passes_rows, finds_safe, finds_unsafe, finds_large, finds_none_small, OfTexts}
 use Rattle.tc_top.specs.Certifying.{told, told_by, IsCertificateOf, IsLeastOf, IsRejectedFor, IsOverlong, long_text, long_outputs, Certifies, as_checked, certifies, overlong, Accepts, stops_before_rows, accepts, no_text, no_certificate, Upgrades, upgrades, too_long, no_form}
-use Rattle.tc_top.specs.Checking.{IsWithinTripleLimits, HasFewRows}
+use Rattle.tc_decide.specs.Checking.{IsWithinTripleLimits, HasFewRows}
 use Rattle.tc_top.specs.OneAnswer.{AreAlike, same_answer}
-use Rattle.tc_top.proofs.OneCheck.{over_triple, one_triple_limit, finds_one, not_both, texts_one}
+use Rattle.tc_decide.proofs.Passing.{over_triple}
+use Rattle.tc_top.proofs.OneCheck.{one_triple_limit, finds_one, texts_one}
+use Rattle.tc_decide.proofs.Deciding.{not_both}
 use Rattle.tc_top.proofs.RejectedAlike.{rejected_alike, one_rejected}
 
 same_as : {one other : Answer} → one ≡ other → AreAlike one other

@@ -2,68 +2,54 @@
 use Rattle.std.proofs.Common.{◌≡◌, subst, ℕ, List, arith}
 use Rattle.tc_base.specs.declared.Limit.{Limit}
 use Rattle.tc_model.specs.Grammars.{Grammar}
-use Rattle.tc_model.specs.Safety.{IsSafe}
 use Rattle.tc_model.specs.Sheets.{Sheet}
-use Rattle.tc_model.specs.Trees.{Trees}
-use Rattle.tc_model.specs.Validity.{IsValidOutput}
 use Rattle.tc_read.specs.Sheets.{IsSheetOf}
 use Rattle.tc_rows.specs.Counts.{IsRowOfLiveTree, IsRowOfLiveHedge, IsOutput}
 use Rattle.tc_rows.proofs.Counting.{counts_tell}
 use Rattle.tc_answer.specs.Answers.{Answer, safe, over_limit}
 use Rattle.tc_top.specs.Causes.{Finds, passes_before_rows, passes_rows, finds_safe, finds_unsafe, finds_large, finds_none_small, Checks, OfTexts, refuses_input, refuses_output, refuses_sheet, all_three}
-use Rattle.tc_top.specs.Checking.{IsWithinTripleLimits, PassesTripleLimit, by_input, by_output, by_sheet, by_calls, by_entries, AreRowCounts, IsCounter, IsLeastCounter, HasLargeCounters}
+use Rattle.tc_decide.specs.Checking.{PassesTripleLimit, by_input, by_output, by_sheet, by_calls, by_entries, AreRowCounts}
 use Rattle.tc_top.specs.OneAnswer.{AreAlike, same_answer, counterexamples, large_counterexamples, large_or_not, not_large_or_large, row_limits}
 use Rattle.tc_top.specs.SchemaTexts.{SchemaText}
 use Rattle.tc_top.proofs.OneRefusal.{sheet_refusals}
 use Rattle.tc_top.proofs.SchemaTextLaws.{no_schema, one_schema, text_refusals}
 use Rattle.tc_top.proofs.OneRun as run
-use Rattle.tc_top.proofs.OneRun.{no_sheet, one_sheet_of, one_result, over_work, over_open}
+use Rattle.tc_decide.proofs.Deciding.{not_both, near_far}
+use Rattle.tc_decide.proofs.Passing.{over_schema, over_sheet, over_triple}
+use Rattle.tc_decide.proofs.Sheets.{no_sheet, one_sheet_of}
 use Rattle.tc_close.proofs.Agreeing.{triples_agree}
 use Rattle.tc_top.proofs.OneValidity as schema
-
--- a safe stylesheet has no counterexample
-pub not_both : (i o : Grammar) (s : Sheet) {document : Trees} → IsSafe i o s → IsCounter i o s document → ⊥
-not_both i o s {document} all (result, found) =
-    let good = all document found.0 in
-    found.2 (subst (IsValidOutput o) (one_result s document good.0 result good.1 found.1) good.2)
 
 safe_alike : {a b c d e f : ℕ} → (a ≡ d) × (b ≡ e) × (c ≡ f) → AreAlike (safe a b c) (safe d e f)
 safe_alike {a} {b} {c} {d} {e} {f} (p, q, r) =
     subst (λ n. AreAlike (safe a b c) (safe n e f)) p (subst (λ n. AreAlike (safe a b c) (safe a n f)) q (subst (λ n. AreAlike (safe a b c) (safe a b n)) r same_answer))
 
 module _ {i o : Grammar} {s : Sheet} where
-  pub over_triple : {kind : Limit} {number : ℕ} → PassesTripleLimit i o s kind number → IsWithinTripleLimits i o s → ⊥
-  over_triple (by_input p) w = schema.over p w.input
-  over_triple (by_output v p) w = schema.over p w.output
-  over_triple (by_sheet v x p) w = run.over p w.sheet
-  over_triple (by_calls v x y p) w = w.calls p
-  over_triple (by_entries v x y n p) w = w.entries p
-
   -- the first limit that is passed is one
   pub one_triple_limit : {kind other : Limit} {number count : ℕ} → PassesTripleLimit i o s kind number → PassesTripleLimit i o s other count → AreAlike (over_limit kind number) (over_limit other count)
   one_triple_limit (by_input p) (by_input q) = schema.one_limit p q
-  one_triple_limit (by_input p) (by_output v q) = absurd (schema.over p v)
-  one_triple_limit (by_input p) (by_sheet v x q) = absurd (schema.over p v)
-  one_triple_limit (by_input p) (by_calls v x y q) = absurd (schema.over p v)
-  one_triple_limit (by_input p) (by_entries v x y n q) = absurd (schema.over p v)
-  one_triple_limit (by_output v p) (by_input q) = absurd (schema.over q v)
+  one_triple_limit (by_input p) (by_output v q) = absurd (over_schema p v)
+  one_triple_limit (by_input p) (by_sheet v x q) = absurd (over_schema p v)
+  one_triple_limit (by_input p) (by_calls v x y q) = absurd (over_schema p v)
+  one_triple_limit (by_input p) (by_entries v x y n q) = absurd (over_schema p v)
+  one_triple_limit (by_output v p) (by_input q) = absurd (over_schema q v)
   one_triple_limit (by_output v p) (by_output w q) = schema.one_limit p q
-  one_triple_limit (by_output v p) (by_sheet w x q) = absurd (schema.over p x)
-  one_triple_limit (by_output v p) (by_calls w x y q) = absurd (schema.over p x)
-  one_triple_limit (by_output v p) (by_entries w x y n q) = absurd (schema.over p x)
-  one_triple_limit (by_sheet v x p) (by_input q) = absurd (schema.over q v)
-  one_triple_limit (by_sheet v x p) (by_output w q) = absurd (schema.over q x)
+  one_triple_limit (by_output v p) (by_sheet w x q) = absurd (over_schema p x)
+  one_triple_limit (by_output v p) (by_calls w x y q) = absurd (over_schema p x)
+  one_triple_limit (by_output v p) (by_entries w x y n q) = absurd (over_schema p x)
+  one_triple_limit (by_sheet v x p) (by_input q) = absurd (over_schema q v)
+  one_triple_limit (by_sheet v x p) (by_output w q) = absurd (over_schema q x)
   one_triple_limit (by_sheet v x p) (by_sheet w y q) = run.one_limit p q
-  one_triple_limit (by_sheet v x p) (by_calls w y z q) = absurd (run.over p z)
-  one_triple_limit (by_sheet v x p) (by_entries w y z n q) = absurd (run.over p z)
-  one_triple_limit (by_calls v x y p) (by_input q) = absurd (schema.over q v)
-  one_triple_limit (by_calls v x y p) (by_output w q) = absurd (schema.over q x)
-  one_triple_limit (by_calls v x y p) (by_sheet w z q) = absurd (run.over q y)
+  one_triple_limit (by_sheet v x p) (by_calls w y z q) = absurd (over_sheet p z)
+  one_triple_limit (by_sheet v x p) (by_entries w y z n q) = absurd (over_sheet p z)
+  one_triple_limit (by_calls v x y p) (by_input q) = absurd (over_schema q v)
+  one_triple_limit (by_calls v x y p) (by_output w q) = absurd (over_schema q x)
+  one_triple_limit (by_calls v x y p) (by_sheet w z q) = absurd (over_sheet q y)
   one_triple_limit (by_calls v x y p) (by_calls w z u q) = same_answer
   one_triple_limit (by_calls v x y p) (by_entries w z u n q) = absurd (n p)
-  one_triple_limit (by_entries v x y n p) (by_input q) = absurd (schema.over q v)
-  one_triple_limit (by_entries v x y n p) (by_output w q) = absurd (schema.over q x)
-  one_triple_limit (by_entries v x y n p) (by_sheet w z q) = absurd (run.over q y)
+  one_triple_limit (by_entries v x y n p) (by_input q) = absurd (over_schema q v)
+  one_triple_limit (by_entries v x y n p) (by_output w q) = absurd (over_schema q x)
+  one_triple_limit (by_entries v x y n p) (by_sheet w z q) = absurd (over_sheet q y)
   one_triple_limit (by_entries v x y n p) (by_calls w z u q) = absurd (n q)
   one_triple_limit (by_entries v x y n p) (by_entries w z u m q) = same_answer
 
@@ -75,10 +61,6 @@ module _ {i o : Grammar} {s : Sheet} where
         (counts_tell (IsRowOfLiveHedge x.triple)).0 b e x.hedges ((agree.live_hedges.counts e).0 y.hedges),
         (counts_tell (IsOutput x.triple)).0 c f x.outputs ((agree.outputs.counts f).0 y.outputs),
       )
-
-  -- one that can be shown, and none that can
-  pub near_far : {document : Trees} → IsLeastCounter i o s document → HasLargeCounters i o s → ⊥
-  near_far {document} x y = let far = y.large document x.counter in omega (arith, x.few, far)
 
   -- what two schemas and a stylesheet decide is one
   pub finds_one : {most : ℕ} {one other : Answer} → Finds most i o s one → Finds most i o s other → AreAlike one other

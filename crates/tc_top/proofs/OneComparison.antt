@@ -11,7 +11,8 @@ use Rattle.tc_rows.proofs.Counting.{counts_tell}
 use Rattle.tc_top.specs.Comparing.{Question, inclusion, equality, AreWithinPairLimits, PassesPairLimit, by_first, by_second, by_symbols, forward, backward, IsOfOne, FindsInclusion, inclusion_passes, inclusion_covers, finds_included, finds_not_included, finds_none_shown, FindsEquality, equality_passes, equality_covers_forward, equality_covers_backward, finds_equal, finds_first_only, finds_second_only, finds_no_one_shown, FindsBoth, Compares, first_refused, second_refused, both_schemas}
 use Rattle.tc_top.specs.OneAnswer.{AreAlike, same_answer, documents_not_included, documents_of_first, documents_of_second, row_limits}
 use Rattle.tc_top.specs.SchemaTexts.{SchemaText}
-use Rattle.tc_top.proofs.OneValidity.{over, one_limit}
+use Rattle.tc_decide.proofs.Passing.{over_schema as over}
+use Rattle.tc_top.proofs.OneValidity.{one_limit}
 use Rattle.tc_top.proofs.SchemaTextLaws.{no_schema, one_schema, text_refusals}
 
 -- a schema that is included in another has no document that isn't valid for that

@@ -14,11 +14,12 @@ use Rattle.tc_stream.proofs.FaultsOnce.{comes_once}
 use Rattle.tc_stream.proofs.MeasureLaws.{good_texts_pass_nothing}
 use Rattle.tc_answer.specs.Answers.{Answer, over_limit, refused}
 use Rattle.tc_top.specs.InPieces.{PassesValidity, passes_schema, passes_symbols, IsRefusedInPieces, DecidesInPieces, schema_limited, text_refused, tag_passed, names_passed, document_valid, document_invalid, ValidatesInPieces, schema_is_refused, schema_is_read}
-use Rattle.tc_top.specs.Limits.{IsValidityWithin}
+use Rattle.tc_decide.specs.Limits.{IsValidityWithin}
 use Rattle.tc_top.specs.OneAnswer.{AreAlike, same_answer}
 use Rattle.tc_top.specs.SchemaTexts.{SchemaText}
 use Rattle.tc_top.proofs.OneRefusal.{document_refusals, no_xml}
-use Rattle.tc_top.proofs.OneValidity.{over, one_limit}
+use Rattle.tc_decide.proofs.Passing.{over_schema as over}
+use Rattle.tc_top.proofs.OneValidity.{one_limit}
 use Rattle.tc_top.proofs.SchemaTextLaws.{no_schema, one_schema, text_refusals}
 
 -- the first limit that a schema passes is one

@@ -1,82 +1,24 @@
 -- What the texts of a stylesheet and of a document decide is one.
-use Rattle.std.proofs.Common.{◌≡◌, ◌<◌, ◌≤◌, inl, inr, ℕ, List, refl, ap, ◌∙◌, sym, subst, arith}
+use Rattle.std.proofs.Common.{◌≡◌, ◌<◌, ℕ, List, subst, arith}
 use Rattle.tc_base.specs.declared.Limit.{Limit}
-use Rattle.tc_model.specs.Chains.{top}
-use Rattle.tc_model.specs.Meaning.{by_mode}
 use Rattle.tc_model.specs.Outcomes.{Outcome}
-use Rattle.tc_model.specs.RawTrees.{RawTrees}
-use Rattle.tc_model.specs.Safety.{Transforms, IsResultOf}
+use Rattle.tc_model.specs.Safety.{Transforms}
 use Rattle.tc_model.specs.Sheets.{Sheet}
-use Rattle.tc_model.specs.SheetText.{SheetText}
 use Rattle.tc_model.specs.SheetText as calls
-use Rattle.tc_model.specs.Stripped.{stripped}
 use Rattle.tc_model.specs.Symbols.{Mention}
-use Rattle.tc_model.specs.Trees.{Trees, normal_form}
-use Rattle.tc_model.specs.XmlText.{XmlText}
-use Rattle.tc_model.proofs.SheetTextUnique.{one_sheet}
+use Rattle.tc_model.specs.Trees.{Trees}
 use Rattle.tc_model.proofs.SheetTextUnique as faults
-use Rattle.tc_model.proofs.Unique.{instantiates_unique}
-use Rattle.tc_model.proofs.XmlTextTrees.{one_raw_tree}
 use Rattle.tc_print.specs.ReadBack.{IsReadAs}
-use Rattle.tc_run.specs.Limits.{KeepsLimits}
 use Rattle.tc_run.specs.Spent.{most_work, most_open}
-use Rattle.tc_sheet.specs.Changes.{Change, mended, flattened, both}
-use Rattle.tc_sheet.specs.Faults.{IsNoneWith}
-use Rattle.tc_sheet.proofs.Changes.{as_they_are}
-use Rattle.tc_sheet.proofs.NamedAgain.{not_once}
 use Rattle.tc_read.specs.Sheets.{IsSheetOf}
-use Rattle.tc_read.specs.Refusals.{IsRefusedSheet}
-use Rattle.tc_read.specs.declared.faults.Reason.{Reason}
-use Rattle.tc_read.specs.declared.faults.Reason.TheVariants.{Malformed, Unsupported, TooDeep, Undefined, Twice, Loop, BadStart, BadExcept, CallLoop}
-use Rattle.tc_top.specs.Limits.{symbols_of_sheet, IsWithinSheetLimits, IsRunWithin, SheetPasses, sheet_symbols, sheet_predicates, sheet_ancestors, sheet_selects}
+use Rattle.tc_decide.specs.Limits.{symbols_of_sheet, IsRunWithin, SheetPasses, sheet_symbols, sheet_predicates, sheet_ancestors, sheet_selects}
 use Rattle.tc_answer.specs.Answers.{Answer, over_limit, has_result}
 use Rattle.tc_top.specs.Causes.{Runs, sheet_passes, too_much_work, too_open, gives_result, RunsTexts, sheet_refused, source_refused, sheet_and_source}
 use Rattle.tc_top.specs.OneAnswer.{AreAlike, same_answer, work_or_open, open_or_work}
 use Rattle.tc_top.proofs.OneRefusal.{document_refusals, sheet_refusals}
-use Rattle.tc_top.proofs.OneValidity.{no_document, one_document}
-
--- the one tree of a text means its stylesheet
-means_at : {bytes : List ℕ} {s : Sheet} → IsSheetOf bytes s → (raw : RawTrees) → XmlText bytes raw → SheetText raw s
-means_at {bytes} {s} x raw text = subst (λ (h : RawTrees). SheetText h s) (one_raw_tree bytes x.raw raw x.text text) x.means
-
-none_with : (c : Change) (raw : RawTrees) (s : Sheet) → IsNoneWith c raw → SheetText raw s → ⊥
-none_with c raw s none t = none raw t.templates (as_they_are c raw) t.written
-
-as_document : {bytes : List ℕ} {s : Sheet} (x : IsSheetOf bytes s) → IsReadAs bytes (stripped x.raw)
-as_document x = record { raw = x.raw; spells = x.text; document = refl }
-
-pub no_sheet : {bytes : List ℕ} {s : Sheet} (reason : Reason) (place : ℕ) → IsRefusedSheet bytes reason place → IsSheetOf bytes s → ⊥
-no_sheet Malformed place (inl r) x = no_document Malformed place r (as_document x)
-no_sheet Malformed place (inr r) x = let t = means_at x r.1.0 r.1.1 in not_once (r.1.2.1 r.1.0 t.templates (as_they_are both r.1.0) t.written) t.once
-no_sheet (Unsupported why) place (inl r) x = no_document (Unsupported why) place r (as_document x)
-no_sheet {s = s} (Unsupported why) place (inr r) x = none_with flattened r.0 s r.2.1 (means_at x r.0 r.1)
-no_sheet TooDeep place (inl r) x = no_document TooDeep place r (as_document x)
-no_sheet {s = s} TooDeep place (inr r) x = none_with mended r.0 s r.2.1 (means_at x r.0 r.1)
-no_sheet {s = s} Undefined place r x = faults.no_sheet r.0 calls.undefined place s r.2 (means_at x r.0 r.1)
-no_sheet {s = s} CallLoop place r x = faults.no_sheet r.0 calls.call_loop place s r.2 (means_at x r.0 r.1)
-no_sheet Twice place r x = r
-no_sheet Loop place r x = r
-no_sheet BadStart place r x = r
-no_sheet BadExcept place r x = r
-
--- a text has one stylesheet
-pub one_sheet_of : {bytes : List ℕ} {s t : Sheet} → IsSheetOf bytes s → IsSheetOf bytes t → s ≡ t
-one_sheet_of {bytes} {s} {t} x y = one_sheet y.raw s t (means_at x y.raw y.text) y.means
-
-pub over : {symbols : List Mention} {s : Sheet} {kind : Limit} {number : ℕ} → SheetPasses symbols s kind number → IsWithinSheetLimits symbols s → ⊥
-over (sheet_symbols p) w = omega (arith, p, w.few)
-over (sheet_predicates q p) w = w.numbers.0 p
-over (sheet_ancestors q a p) w = w.numbers.1 p
-over (sheet_selects q a b p) w = w.numbers.2 p
-
-one_outcome : (s : Sheet) (d : Trees) (o p : Outcome) → Transforms s d o → Transforms s d p → o ≡ p
-one_outcome s d o p t u = instantiates_unique s (by_mode 0) (top d) o p t u
-
-pub over_work : (s : Sheet) (d : Trees) (o : Outcome) → Transforms s d o → most_work < o.work → KeepsLimits s d → ⊥
-over_work s d o t p k = let few = subst (λ (x : Outcome). x.work ≤ most_work) (one_outcome s d k.0 o k.1 t) k.2 in omega (arith, p, few)
-
-pub over_open : (s : Sheet) (d : Trees) (o : Outcome) → Transforms s d o → most_open < o.nesting → KeepsLimits s d → ⊥
-over_open s d o t p k = let low = subst (λ (x : Outcome). x.nesting ≤ most_open) (one_outcome s d k.0 o k.1 t) k.3 in omega (arith, p, low)
+use Rattle.tc_decide.proofs.Documents.{no_document, one_document}
+use Rattle.tc_decide.proofs.Passing.{over_sheet}
+use Rattle.tc_decide.proofs.Sheets.{no_sheet, one_sheet_of, one_result, over_work, over_open}
 
 -- the first limit that a stylesheet passes is one
 pub one_limit : {symbols : List Mention} {s : Sheet} {kind other : Limit} {number count : ℕ} → SheetPasses symbols s kind number → SheetPasses symbols s other count → AreAlike (over_limit kind number) (over_limit other count)
@@ -97,23 +39,20 @@ one_limit (sheet_selects p a b x) (sheet_predicates q y) = absurd (a y)
 one_limit (sheet_selects p a b x) (sheet_ancestors q c y) = absurd (b y)
 one_limit (sheet_selects p a b x) (sheet_selects q c d y) = same_answer
 
-pub one_result : (s : Sheet) (d r q : Trees) → IsResultOf s d r → IsResultOf s d q → r ≡ q
-one_result s d r q x y = x.2 ∙ (ap (λ (o : Outcome). normal_form o.out) (one_outcome s d x.0 y.0 x.1 y.1) ∙ sym y.2)
-
 runs_one : {s : Sheet} {d : Trees} {one other : Answer} → Runs s d one → Runs s d other → AreAlike one other
 runs_one (sheet_passes p) (sheet_passes q) = one_limit p q
-runs_one (sheet_passes p) (too_much_work w t q) = absurd (over p w)
-runs_one (sheet_passes p) (too_open w t q) = absurd (over p w)
-runs_one (sheet_passes p) (gives_result w r) = absurd (over p w.sheet)
-runs_one (too_much_work w t p) (sheet_passes q) = absurd (over q w)
+runs_one (sheet_passes p) (too_much_work w t q) = absurd (over_sheet p w)
+runs_one (sheet_passes p) (too_open w t q) = absurd (over_sheet p w)
+runs_one (sheet_passes p) (gives_result w r) = absurd (over_sheet p w.sheet)
+runs_one (too_much_work w t p) (sheet_passes q) = absurd (over_sheet q w)
 runs_one (too_much_work w t p) (too_much_work v u q) = same_answer
 runs_one (too_much_work w t p) (too_open v u q) = work_or_open
 runs_one {s = s} {d = d} (too_much_work {o = o} w t p) (gives_result v r) = absurd (over_work s d o t p v.keeps)
-runs_one (too_open w t p) (sheet_passes q) = absurd (over q w)
+runs_one (too_open w t p) (sheet_passes q) = absurd (over_sheet q w)
 runs_one (too_open w t p) (too_much_work v u q) = open_or_work
 runs_one (too_open w t p) (too_open v u q) = same_answer
 runs_one {s = s} {d = d} (too_open {o = o} w t p) (gives_result v r) = absurd (over_open s d o t p v.keeps)
-runs_one (gives_result w r) (sheet_passes q) = absurd (over q w.sheet)
+runs_one (gives_result w r) (sheet_passes q) = absurd (over_sheet q w.sheet)
 runs_one {s = s} {d = d} (gives_result w r) (too_much_work {o = o} v u q) = absurd (over_work s d o u q w.keeps)
 runs_one {s = s} {d = d} (gives_result w r) (too_open {o = o} v u q) = absurd (over_open s d o u q w.keeps)
 runs_one {s = s} {d = d} (gives_result {result = x} w r) (gives_result {result = y} v q) =
@@ -142,7 +81,7 @@ runs_of x d (sheet_and_source y e i) = runs_same (one_sheet_of y x) (one_documen
 
 -- a limit that is passed isn't kept
 pub not_within : (s : Sheet) (d : Trees) (kind : Limit) (number : ℕ) → SheetPasses (symbols_of_sheet s) s kind number → IsRunWithin s d → ⊥
-not_within s d kind number p w = over p w.sheet
+not_within s d kind number p w = over_sheet p w.sheet
 
 pub not_few : (s : Sheet) (d : Trees) (o : Outcome) → Transforms s d o → most_work < o.work → IsRunWithin s d → ⊥
 not_few s d o t p w = over_work s d o t p w.keeps

@@ -1,50 +1,21 @@
 -- What the texts of a schema and of a document decide is one.
-use Rattle.std.proofs.Common.{◌≡◌, ℕ, List, sym, ap, ◌∙◌, subst, arith}
+use Rattle.std.proofs.Common.{◌≡◌, ℕ, List, subst, arith}
 use Rattle.tc_base.specs.declared.Limit.{Limit}
 use Rattle.tc_model.specs.Trees.{Trees}
 use Rattle.tc_model.specs.Grammars.{Grammar}
-use Rattle.tc_model.specs.Stripped.{stripped}
 use Rattle.tc_model.specs.Validity.{IsValid}
-use Rattle.tc_model.proofs.XmlTextTrees.{one_raw_tree}
 use Rattle.tc_print.specs.ReadBack.{IsReadAs}
-use Rattle.tc_read.proofs.OtherEntities.{with_others}
-use Rattle.tc_read.specs.Refusals.{IsRefusedDocument}
-use Rattle.tc_read.specs.declared.faults.Reason.{Reason}
-use Rattle.tc_read.specs.declared.faults.Reason.TheVariants.{Malformed, Unsupported, TooDeep, Undefined, Twice, Loop, BadStart, BadExcept, CallLoop}
-use Rattle.tc_model.specs.SimplifiesCounts.{IsWithinCounts}
 use Rattle.tc_model.specs.States.{Side}
 use Rattle.tc_read.specs.Schemas.{PassesSize, passes_pattern, passes_depth, passes_elements}
-use Rattle.tc_top.specs.Limits.{IsWithinLimits, PassesLimit, passes_size, passes_states, IsValidityWithin}
+use Rattle.tc_decide.specs.Limits.{PassesLimit, passes_size, passes_states, IsValidityWithin}
 use Rattle.tc_answer.specs.Answers.{Answer, over_limit, is_valid, is_invalid}
 use Rattle.tc_top.specs.Causes.{Decides, passes, too_many_symbols, decides_valid, decides_invalid, Validates, schema_refused, document_refused, both_read}
 use Rattle.tc_top.specs.OneAnswer.{AreAlike, same_answer}
 use Rattle.tc_top.specs.SchemaTexts.{SchemaText}
+use Rattle.tc_decide.proofs.Documents.{no_document, one_document}
+use Rattle.tc_decide.proofs.Passing.{too_large, over_schema}
 use Rattle.tc_top.proofs.OneRefusal.{document_refusals}
 use Rattle.tc_top.proofs.SchemaTextLaws.{no_schema, one_schema, text_refusals}
-
-pub no_document : {bytes : List ℕ} {d : Trees} (reason : Reason) (place : ℕ) → IsRefusedDocument bytes reason place → IsReadAs bytes d → ⊥
-no_document Malformed place r x = r.1 _ x.raw (with_others x.spells)
-no_document (Unsupported why) place r x = r.1 _ x.raw x.spells
-no_document TooDeep place r x = r.1 x.raw (with_others x.spells)
-no_document Undefined place r x = r
-no_document Twice place r x = r
-no_document Loop place r x = r
-no_document BadStart place r x = r
-no_document BadExcept place r x = r
-no_document CallLoop place r x = r
-
--- a text has one document
-pub one_document : {bytes : List ℕ} {c d : Trees} → IsReadAs bytes c → IsReadAs bytes d → c ≡ d
-one_document {bytes} x y = sym x.document ∙ (ap stripped (one_raw_tree bytes x.raw y.raw x.spells y.spells) ∙ y.document)
-
-pub too_large : {g : Grammar} {kind : Limit} {number : ℕ} → PassesSize g kind number → IsWithinCounts g → ⊥
-too_large (passes_pattern p) w = omega (arith, p, w.nodes)
-too_large (passes_depth p) w = omega (arith, p.1, w.depth)
-too_large (passes_elements p) w = omega (arith, p.2, w.elements)
-
-pub over : {g : Grammar} {side : Side} {most : ℕ} {kind : Limit} {number : ℕ} → PassesLimit g side most kind number → IsWithinLimits g side most → ⊥
-over (passes_size p) w = too_large p w.counts
-over (passes_states c p) w = omega (arith, p, w.states)
 
 -- the first limit that a schema passes is one
 one_size : {g : Grammar} {kind other : Limit} {number count : ℕ} → PassesSize g kind number → PassesSize g other count → AreAlike (over_limit kind number) (over_limit other count)
@@ -67,18 +38,18 @@ one_limit (passes_states c p) (passes_states d q) = same_answer
 
 decides_one : {g : Grammar} {d : Trees} {one other : Answer} → Decides g d one → Decides g d other → AreAlike one other
 decides_one (passes p) (passes q) = one_limit p q
-decides_one (passes p) (too_many_symbols w q) = absurd (over p w)
-decides_one (passes p) (decides_valid w v) = absurd (over p w.schema)
-decides_one (passes p) (decides_invalid w v) = absurd (over p w.schema)
-decides_one (too_many_symbols w q) (passes p) = absurd (over p w)
+decides_one (passes p) (too_many_symbols w q) = absurd (over_schema p w)
+decides_one (passes p) (decides_valid w v) = absurd (over_schema p w.schema)
+decides_one (passes p) (decides_invalid w v) = absurd (over_schema p w.schema)
+decides_one (too_many_symbols w q) (passes p) = absurd (over_schema p w)
 decides_one (too_many_symbols w q) (too_many_symbols x r) = same_answer
 decides_one (too_many_symbols w q) (decides_valid x v) = absurd (omega (arith, q, x.symbols))
 decides_one (too_many_symbols w q) (decides_invalid x v) = absurd (omega (arith, q, x.symbols))
-decides_one (decides_valid w v) (passes p) = absurd (over p w.schema)
+decides_one (decides_valid w v) (passes p) = absurd (over_schema p w.schema)
 decides_one (decides_valid w v) (too_many_symbols x q) = absurd (omega (arith, q, w.symbols))
 decides_one (decides_valid w v) (decides_valid x u) = same_answer
 decides_one (decides_valid w v) (decides_invalid x u) = absurd (u v)
-decides_one (decides_invalid w v) (passes p) = absurd (over p w.schema)
+decides_one (decides_invalid w v) (passes p) = absurd (over_schema p w.schema)
 decides_one (decides_invalid w v) (too_many_symbols x q) = absurd (omega (arith, q, w.symbols))
 decides_one (decides_invalid w v) (decides_valid x u) = absurd (v u)
 decides_one (decides_invalid w v) (decides_invalid x u) = same_answer
@@ -104,7 +75,7 @@ pub data Settles (g : Grammar) (d : Trees) : Answer → Type 0 where
   settles_invalid : ¬ (IsValid g d) → Settles g d is_invalid
 
 settled : {g : Grammar} {d : Trees} {answer : Answer} → IsValidityWithin g → Decides g d answer → Settles g d answer
-settled w (passes p) = absurd (over p w.schema)
+settled w (passes p) = absurd (over_schema p w.schema)
 settled w (too_many_symbols x q) = absurd (omega (arith, q, w.symbols))
 settled w (decides_valid x v) = settles_valid v
 settled w (decides_invalid x v) = settles_invalid v

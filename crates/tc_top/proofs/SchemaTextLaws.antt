@@ -1,29 +1,35 @@
 -- What texts of schemas mean is one grammar, a well-formed one, and none where they are refused.
-use Rattle.std.proofs.Common.{◌≡◌, ◌⊎◌, inl, inr, ◌∙◌, ℕ, List, Some, None, refl, sym, ap, subst}
-use Rattle.tc_dtd.specs.DtdGrammar.{IsGrammarOfDtd}
-use Rattle.tc_dtd.specs.DtdTextLaws.{IsMalformed, IsRefusal}
-use Rattle.tc_dtd.specs.Faults.{IsFaultOf}
+use Rattle.std.proofs.Common.{◌≡◌, ◌≤◌, inl, inr, ◌∙◌, ℕ, List, length, Some, None, refl, sym, ap, subst}
+use Rattle.tc_base.specs.Reading.{longest_text}
+use Rattle.tc_dtd.specs.DtdTextLaws.{IsMalformed}
 use Rattle.tc_dtd.specs.declared.faults.DtdFault.{DtdFault}
 use Rattle.tc_dtd.specs.declared.faults.DtdFault.TheVariants as dtd
-use Rattle.tc_dtd.proofs.FaultLaws.{one_dtd, lawful, no_dtd}
-use Rattle.tc_dtd.proofs.OneFault.{one_fault, one_grammar}
-use Rattle.tc_dtd.proofs.ValidLaws.{law_of_grammar}
+use Rattle.tc_dtd.proofs.OneFault.{one_fault}
 use Rattle.tc_model.specs.Grammars.{Grammar, IsGrammar}
+use Rattle.tc_model.specs.RncText.{RncText}
 use Rattle.tc_model.specs.SimplifiesLaws.{IsStart}
+use Rattle.tc_model.specs.Views as see
+use Rattle.tc_model.specs.Views.{place}
+use Rattle.tc_read.specs.Refusals.{IsRefusedSchema}
 use Rattle.tc_model.proofs.SimplifiesLawful.{lawful_grammar}
 use Rattle.tc_model.proofs.SimplifiesUnique.{lawful_start, one_rnc_text}
 use Rattle.tc_read.specs.Faults.{IsUnaccepted}
 use Rattle.tc_read.specs.declared.faults.Reason.{Reason}
 use Rattle.tc_read.specs.declared.faults.TextFault.{TextFault}
 use Rattle.tc_read.specs.declared.faults.TextFault.TheVariants.{Refused, NoMemory}
-use Rattle.tc_read.specs.declared.faults.Reason.TheVariants.{Malformed, Unsupported, TooDeep, Undefined, Twice, Loop, BadStart, BadExcept, CallLoop}
+use Rattle.tc_read.specs.declared.faults.Reason.TheVariants.{Malformed, Unsupported, TooDeep, Twice}
 use Rattle.tc_read.specs.declared.schemas.Schema.{Schema}
 use Rattle.tc_read.specs.declared.schemas.Schema.TheVariants.{Small, TooLarge}
 use Rattle.tc_read.proofs.SchemaReasons as rnc
 use Rattle.tc_answer.specs.Answers.{refused}
 use Rattle.tc_answer.specs.SchemaWords.{root_of}
 use Rattle.tc_top.specs.OneAnswer.{AreAlike, same_answer, open_reasons, IsPlaced, HasOneReasonOfDtd}
-use Rattle.tc_top.specs.SchemaTexts.{DeclaresGrammar, IsRefusedDtd, SchemaText, compact, declares, IsRefusedText, refuses_compact, refuses_declarations, IsSchemaOfDtd, IsSchemaOfText}
+use Rattle.tc_decide.specs.MachinesSeen.{IsReadOf, IsLawful}
+use Rattle.tc_decide.specs.Texts.{DeclaresGrammar, IsRefusedDtd, Spells, IsRefused, IsShort, IsSchemaOf}
+use Rattle.tc_decide.specs.declared.schemas.SchemaText.{SchemaText as Text}
+use Rattle.tc_decide.specs.declared.schemas.SchemaText.TheVariants.{Compact, Declarations}
+use Rattle.tc_decide.proofs.SchemaTexts.{IsOfFault, reason_by, place_by, of_fault, one_declared, no_declared, lawful_declared, read_of as schema_of}
+use Rattle.tc_top.specs.SchemaTexts.{SchemaText, compact, declares, IsRefusedText, refuses_compact, refuses_declarations, IsSchemaOfText, IsTextOf}
 use Rattle.tc_top.proofs.OneRefusal.{schema_refusals}
 
 -- a word has a root or none, and one
@@ -38,43 +44,6 @@ one_root : (word root other : List ℕ) → root_of word ≡ Some root → root_
 one_root word root other e f = some_is root other (sym e ∙ f)
 
 -- declarations
-
-one_declared : {root bytes : List ℕ} {g h : Grammar} → DeclaresGrammar root bytes g → DeclaresGrammar root bytes h → g ≡ h
-one_declared {root} {bytes} {g} {h} a b =
-    one_grammar b.declarations root g h (subst (λ ds. IsGrammarOfDtd ds root g) (one_dtd bytes a.declarations b.declarations a.declared b.declared) a.is_grammar) b.is_grammar
-
--- a refusal is a fault
-record IsOfFault (bytes : List ℕ) (reason : Reason) (place : ℕ) (reason_of : DtdFault → Reason) (place_in : DtdFault → ℕ) : Type 0 where
-  fault : DtdFault
-  refusal : IsRefusal fault
-  faulty : IsFaultOf bytes fault
-  reason_is : reason ≡ reason_of fault
-  place_is : place ≡ place_in fault
-
-abbrev reason_by : DtdFault → Reason
-reason_by (dtd.Malformed p) = Malformed
-reason_by (dtd.Unsupported p why) = Unsupported why
-reason_by (dtd.TooDeep p) = TooDeep
-reason_by (dtd.Twice p) = Twice
-reason_by dtd.NoMemory = Malformed
-
-abbrev place_by : DtdFault → ℕ
-place_by (dtd.Malformed p) = p.0
-place_by (dtd.Unsupported p why) = p.0
-place_by (dtd.TooDeep p) = p.0
-place_by (dtd.Twice p) = p.0
-place_by dtd.NoMemory = 0
-
-of_fault : (bytes : List ℕ) (reason : Reason) (place : ℕ) → IsRefusedDtd bytes reason place → IsOfFault bytes reason place reason_by place_by
-of_fault bytes Malformed place h = record { fault = dtd.Malformed (record { 0 = place }); refusal = tt; faulty = h; reason_is = refl; place_is = refl }
-of_fault bytes (Unsupported why) place h = record { fault = dtd.Unsupported (record { 0 = place }) why; refusal = tt; faulty = h; reason_is = refl; place_is = refl }
-of_fault bytes TooDeep place h = record { fault = dtd.TooDeep (record { 0 = place }); refusal = tt; faulty = h; reason_is = refl; place_is = refl }
-of_fault bytes Twice place h = record { fault = dtd.Twice (record { 0 = place }); refusal = tt; faulty = h; reason_is = refl; place_is = refl }
-of_fault bytes Undefined place h = absurd h
-of_fault bytes Loop place h = absurd h
-of_fault bytes BadStart place h = absurd h
-of_fault bytes BadExcept place h = absurd h
-of_fault bytes CallLoop place h = absurd h
 
 reason_malformed : (f : DtdFault) → IsMalformed f → reason_by f ≡ Malformed
 reason_malformed (dtd.Malformed p) h = refl
@@ -93,9 +62,6 @@ one_reason_of_dtd bytes r q k m x y = by (of_fault bytes r k x) (of_fault bytes 
           let first = a.reason_is ∙ reason_malformed a.fault s.0 in
           (first ∙ sym (b.reason_is ∙ reason_malformed b.fault s.1), λ p. absurd (subst IsPlaced first p))
     ]
-
-no_declared : {root bytes : List ℕ} {g : Grammar} (reason : Reason) (place : ℕ) → IsRefusedDtd bytes reason place → DeclaresGrammar root bytes g → ⊥
-no_declared {bytes = bytes} reason place h a = let f = of_fault bytes reason place h in no_dtd bytes f.fault a.declarations f.refusal f.faulty a.declared
 
 alike_at : (name : List ℕ) (reason : Reason) (k m : ℕ) → (IsPlaced reason → k ≡ m) → AreAlike (refused name reason k) (refused name reason m)
 alike_at name Malformed k m h = open_reasons tt tt
@@ -128,16 +94,37 @@ text_refusals {bytes = bytes} name (refuses_declarations e x) (refuses_declarati
 
 pub lawful_schema : {word bytes : List ℕ} {g : Grammar} → SchemaText word bytes g → IsGrammar g × IsStart g.start
 lawful_schema {bytes = bytes} {g = g} (compact e a) = (lawful_grammar bytes g a, lawful_start a.0 g a.2)
-lawful_schema {bytes = bytes} {g = g} (declares {root = root} e a) = law_of_grammar a.declarations root g (lawful bytes a.declarations a.declared) a.is_grammar
+lawful_schema (declares e a) = lawful_declared a
 
--- what is read of a text is read of that behind its word
+-- the grammar that a text spells is that of its schema, which is lawful
 
-pub read_as_text : (word root bytes : List ℕ) (s : Schema) → root_of word ≡ Some root → IsSchemaOfDtd root bytes s → IsSchemaOfText word bytes s
-read_as_text word root bytes (Small x) e h = (declares e h.0, h.1)
-read_as_text word root bytes (TooLarge kind number) e h = (h.0, declares e h.1, h.2)
+pub read_of : (word bytes : List ℕ) (x : Schema) → IsSchemaOfText word bytes x → (g : Grammar) × SchemaText word bytes g × IsReadOf g x
+read_of word bytes x h = schema_of (SchemaText word bytes) x h
+
+pub lawful_read : (word bytes : List ℕ) (x : Schema) → IsSchemaOfText word bytes x → IsLawful x
+lawful_read word bytes x h = let (g, spells, read) = read_of word bytes x h in let (grammar, start) = lawful_schema spells in (g, read, grammar, start)
+
+-- the text of an operand is that behind its word
+
+pub spelled_as_text : (word bytes : List ℕ) (text : Text) → IsTextOf word bytes text → (g : Grammar) → Spells text g → SchemaText word bytes g
+spelled_as_text word bytes (Compact text) is g h = compact is.0 (subst (λ w. RncText w g) is.1 h)
+spelled_as_text word bytes (Declarations root text) is g h = declares is.0 (subst (λ w. DeclaresGrammar root.now w g) is.1 h)
+
+pub read_as_text : (word bytes : List ℕ) (text : Text) → IsTextOf word bytes text → (x : Schema) → IsSchemaOf text x → IsSchemaOfText word bytes x
+read_as_text word bytes text is (Small x) h = (spelled_as_text word bytes text is (see.grammar x) h.0, h.1)
+read_as_text word bytes text is (TooLarge kind number) h = (h.0, spelled_as_text word bytes text is h.0 h.1, h.2)
 
 -- and so is why there is none
 
-pub refused_as_text : (word root bytes : List ℕ) (e : TextFault) → root_of word ≡ Some root → IsUnaccepted (IsRefusedDtd bytes) e → IsUnaccepted (IsRefusedText word bytes) e
-refused_as_text word root bytes (Refused why p) f h = refuses_declarations f h
-refused_as_text word root bytes NoMemory f h = tt
+pub refused_as_text : (word bytes : List ℕ) (text : Text) → IsTextOf word bytes text → (reason : Reason) (place : ℕ) → IsRefused text reason place → IsRefusedText word bytes reason place
+refused_as_text word bytes (Compact text) is reason place h = refuses_compact is.0 (subst (λ w. IsRefusedSchema w reason place) is.1 h)
+refused_as_text word bytes (Declarations root text) is reason place h = refuses_declarations is.0 (subst (λ w. IsRefusedDtd w reason place) is.1 h)
+
+pub unaccepted_as_text : (word bytes : List ℕ) (text : Text) → IsTextOf word bytes text → (e : TextFault) → IsUnaccepted (IsRefused text) e → IsUnaccepted (IsRefusedText word bytes) e
+unaccepted_as_text word bytes text is (Refused why p) h = refused_as_text word bytes text is why (place p) h
+unaccepted_as_text word bytes text is NoMemory h = tt
+
+-- it is as long
+pub short_text : (word bytes : List ℕ) (text : Text) → IsTextOf word bytes text → length bytes ≤ longest_text → IsShort text
+short_text word bytes (Compact text) is short = subst (λ w. length w ≤ longest_text) (sym is.1) short
+short_text word bytes (Declarations root text) is short = subst (λ w. length w ≤ longest_text) (sym is.1) short

@@ -8,10 +8,10 @@ use Rattle.tc_io.specs.declared.StoreFault.TheVariants.{TooLong}
 use Rattle.tc_model.specs.Trees.{Trees}
 use Rattle.tc_model.specs.Sheets.{Sheet}
 use Rattle.tc_top.specs.Checking.{most_rows}
-use Rattle.tc_answer.specs.declared.limits.TheConstants.{MOST_ROWS}
+use Rattle.tc_decide.specs.declared.limits.TheConstants.{MOST_ROWS}
 use Rattle.tc_top.specs.Demo.{demo_schema, demo_sheet, input_name, output_name, sheet_name}
 use Rattle.tc_answer.specs.Words.{Command, check, prove, verify, run, valid, valid_in_pieces, demo, upgrade, include, same, Words, IsNoCommand, operands_of}
-use Rattle.tc_top.specs.Limits.{IsRunWithin}
+use Rattle.tc_decide.specs.Limits.{IsRunWithin}
 use Rattle.tc_answer.specs.Reading.{StopsAt, IsUnreadable, AreRead}
 use Rattle.tc_answer.specs.declared.status.Status.{Status}
 use Rattle.tc_answer.specs.declared.status.Status.TheVariants.{Yes, Limit, WriteFault, NoMemory}

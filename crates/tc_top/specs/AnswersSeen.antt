@@ -12,7 +12,7 @@ use Rattle.tc_read.specs.declared.faults.TextFault.{TextFault}
 use Rattle.tc_read.specs.declared.faults.TextFault.TheVariants.{Refused, NoMemory}
 use Rattle.tc_run.specs.Limits.{KeepsLimits}
 use Rattle.tc_top.specs.Answers.{IsAnswer}
-use Rattle.tc_top.specs.Checking.{IsLargeRun}
+use Rattle.tc_decide.specs.Checking.{IsLargeRun}
 
 -- an answer that is right for the words and for what was read, by its cause
 abbrev pub IsRight : List (List ℕ) → List Read → Answer → Type 0

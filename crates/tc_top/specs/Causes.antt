@@ -15,13 +15,13 @@ use Rattle.tc_print.specs.ReadBack.{IsReadAs}
 use Rattle.tc_run.specs.Spent.{most_work, most_open}
 use Rattle.tc_read.specs.Sheets.{IsSheetOf}
 use Rattle.tc_run.specs.Limits.{KeepsLimits}
-use Rattle.tc_answer.specs.Lines.{RowCount}
-use Rattle.tc_top.specs.Checking.{most_of, IsWithinTripleLimits, PassesTripleLimit, HasManyRows, HasFewRows, AreRowCounts, IsLeastCounter, HasLargeCounters, IsLargeRun}
+use Rattle.tc_decide.specs.RowCounts.{RowCount}
+use Rattle.tc_decide.specs.Checking.{most_of, IsWithinTripleLimits, PassesTripleLimit, HasManyRows, HasFewRows, AreRowCounts, IsLeastCounter, HasLargeCounters, IsLargeRun}
 use Rattle.tc_answer.specs.Words.{check, run, valid}
 use Rattle.tc_read.specs.Refusals.{IsRefusedDocument, IsRefusedSheet}
 use Rattle.tc_read.specs.declared.faults.Reason.{Reason}
 use Rattle.tc_top.specs.SchemaTexts.{SchemaText, IsRefusedText}
-use Rattle.tc_top.specs.Limits.{symbols_of_schema, symbols_of_sheet, IsWithinLimits, PassesLimit, IsValidityWithin, IsWithinSheetLimits, SheetPasses, IsRunWithin}
+use Rattle.tc_decide.specs.Limits.{symbols_of_schema, symbols_of_sheet, IsWithinLimits, PassesLimit, IsValidityWithin, IsWithinSheetLimits, SheetPasses, IsRunWithin}
 use Rattle.tc_answer.specs.declared.status.Status.TheVariants.{Limit}
 use Rattle.tc_answer.specs.Answers.{Answer, safe, unsafe, unsafe_large, rows_limit, counterexample_limit, refused, over_limit, is_valid, is_invalid, has_result, work_limit, open_limit}
 

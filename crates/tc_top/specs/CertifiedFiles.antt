@@ -1,9 +1,10 @@
 -- What `prove`, `verify` and `upgrade` of held files decide.
 use Rattle.std.specs.Prelude.{◌≡◌, ◌<◌, ◌≤◌, ◌⊎◌, ◌↔◌, ℕ, List, length, Option, Some, codes}
-use Rattle.tc_answer.specs.Lines.{Rejection, form_fails, RowCount, line, limit_line, limit_word, count_word, rejected_line}
+use Rattle.tc_answer.specs.Lines.{Rejection, form_fails, line, limit_line, limit_word, count_word, rejected_line}
+use Rattle.tc_decide.specs.RowCounts.{RowCount}
 use Rattle.tc_answer.specs.SchemaWords.{file_of}
 use Rattle.tc_answer.specs.Words.{prove, verify, upgrade, Words}
-use Rattle.tc_answer.specs.declared.limits.TheConstants.{MOST_SHOWN_NODES, LONGEST_CERTIFICATE}
+use Rattle.tc_decide.specs.declared.limits.TheConstants.{MOST_SHOWN_NODES, LONGEST_CERTIFICATE}
 use Rattle.tc_answer.specs.declared.status.Status.{Status}
 use Rattle.tc_answer.specs.declared.status.Status.TheVariants.{Yes, No, Limit}
 use Rattle.tc_base.specs.declared.Limit as kinds
@@ -22,7 +23,7 @@ use Rattle.tc_read.specs.Sheets.{IsSheetOf}
 use Rattle.tc_top.specs.Answers.{IsAnswerOn}
 use Rattle.tc_answer.specs.Answers.{certificate, accepted}
 use Rattle.tc_top.specs.Certifying.{IsCertificateOf, IsLeastOf, IsOverlong, IsRejectedFor}
-use Rattle.tc_top.specs.Checking.{most_of, IsWithinTripleLimits, PassesTripleLimit, HasManyRows, HasFewRows, IsLeastCounter, HasSmallCounter, HasLargeCounters}
+use Rattle.tc_decide.specs.Checking.{most_of, IsWithinTripleLimits, PassesTripleLimit, HasManyRows, HasFewRows, IsLeastCounter, HasSmallCounter, HasLargeCounters}
 use Rattle.tc_top.specs.SchemaTexts.{SchemaText}
 use Rattle.tc_top.specs.Headline.{IsLimited, ShowsRun}
 

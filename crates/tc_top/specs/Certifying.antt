@@ -2,7 +2,7 @@
 use Rattle.std.specs.Prelude.{◌≡◌, ◌<◌, ◌≤◌, ℕ, List, length}
 use Rattle.tc_answer.specs.Answers.{Answer, certificate, certificate_limit, accepted, rejected, over_limit, status_of}
 use Rattle.tc_answer.specs.Lines.{Rejection, form_fails, fit_fails, empty_fails, text_fails, append_fails, wrap_fails, root_fails}
-use Rattle.tc_answer.specs.declared.limits.TheConstants.{LONGEST_CERTIFICATE}
+use Rattle.tc_decide.specs.declared.limits.TheConstants.{LONGEST_CERTIFICATE}
 use Rattle.tc_answer.specs.declared.status.Status.TheVariants.{Yes}
 use Rattle.tc_base.specs.declared.Limit as kinds
 use Rattle.tc_cert.specs.Fronts.{IsFirstFault}
@@ -17,7 +17,7 @@ use Rattle.tc_model.specs.declared.lists.CertData.{CertData}
 use Rattle.tc_rows.specs.CertificateRows.{IsCertificateData}
 use Rattle.tc_rows.specs.Triples.{Triple}
 use Rattle.tc_top.specs.Causes.{Finds, OfTexts}
-use Rattle.tc_top.specs.Checking.{IsWithinTripleLimits, PassesTripleLimit, HasFewRows}
+use Rattle.tc_decide.specs.Checking.{IsWithinTripleLimits, PassesTripleLimit, HasFewRows}
 use Rattle.tc_verify.specs.Rejects.{IsRejected}
 use Rattle.tc_verify.specs.declared.reject.Reject.{Reject}
 use Rattle.tc_verify.specs.declared.reject.RejectRule.{RejectRule}

@@ -1,7 +1,7 @@
 -- What is found of two schemas: whether the first is included in the second, and whether both have the same valid documents.
 use Rattle.std.specs.Prelude.{◌<◌, ◌≤◌, ◌⊎◌, ◌++◌, ℕ, List}
 use Rattle.tc_answer.specs.Answers.{Answer, included, not_included, equal, first_only, second_only, rows_limit, counterexample_limit, over_limit, refused}
-use Rattle.tc_answer.specs.Lines.{RowCount, trees, hedges}
+use Rattle.tc_decide.specs.RowCounts.{RowCount, trees, hedges}
 use Rattle.tc_base.specs.declared.Limit.{Limit}
 use Rattle.tc_base.specs.declared.Limit.TheVariants.{Symbols}
 use Rattle.tc_base.specs.declared.limits.TheConstants.{MOST_INPUT_STATES, MOST_SYMBOLS}
@@ -16,8 +16,8 @@ use Rattle.tc_model.specs.Trees.{Trees, node_count}
 use Rattle.tc_read.specs.declared.faults.Reason.{Reason}
 use Rattle.tc_rows.specs.Counts.{Counts, Pass}
 use Rattle.tc_top.specs.SchemaTexts.{SchemaText, IsRefusedText}
-use Rattle.tc_top.specs.Limits.{IsWithinLimits, PassesLimit, AreFew, symbols_of_mentions}
-use Rattle.tc_answer.specs.declared.limits.TheConstants.{MOST_ROWS, MOST_SHOWN_NODES}
+use Rattle.tc_decide.specs.Limits.{IsWithinLimits, PassesLimit, AreFew, symbols_of_mentions}
+use Rattle.tc_decide.specs.declared.limits.TheConstants.{MOST_ROWS, MOST_SHOWN_NODES}
 
 -- what is asked of two schemas
 pub data Question : Type 0 where

@@ -4,7 +4,7 @@ use Rattle.tc_answer.specs.Answers.{refused, text_of}
 use Rattle.tc_answer.specs.Lines.{line, limit_line, limit_word}
 use Rattle.tc_answer.specs.SchemaWords.{file_of}
 use Rattle.tc_answer.specs.Words.{valid_in_pieces, Words}
-use Rattle.tc_answer.specs.declared.limits.TheConstants.{LONGEST_TAG, MOST_NAMES}
+use Rattle.tc_decide.specs.declared.limits.TheConstants.{LONGEST_TAG, MOST_NAMES}
 use Rattle.tc_answer.specs.declared.status.Status.{Status}
 use Rattle.tc_answer.specs.declared.status.Status.TheVariants.{Yes, No, Refused, Limit}
 use Rattle.tc_base.specs.declared.Limit as kinds
@@ -19,7 +19,7 @@ use Rattle.tc_model.specs.XmlText.{XmlText}
 use Rattle.tc_read.specs.declared.faults.Reason.{Reason}
 use Rattle.tc_stream.specs.XmlTextMeasures.{Measure, tag, names, IsGood, PassesFirst, IsWithinMeasures}
 use Rattle.tc_top.specs.InPieces.{PassesValidity, IsRefusedInPieces}
-use Rattle.tc_top.specs.Limits.{IsValidityWithin}
+use Rattle.tc_decide.specs.Limits.{IsValidityWithin}
 use Rattle.tc_top.specs.SchemaTexts.{SchemaText}
 
 -- the words validate a held file of this name and these bytes, in pieces, by a held schema whose text spells this grammar

@@ -12,13 +12,14 @@ use Rattle.tc_model.specs.Validity.{IsValid}
 use Rattle.tc_print.specs.ReadBack.{IsReadAs}
 use Rattle.tc_read.specs.Sheets.{IsSheetOf}
 use Rattle.tc_run.specs.Limits.{KeepsLimits}
-use Rattle.tc_answer.specs.Lines.{RowCount, limit_word, line, limit_line, count_word, safe_line, unsafe_lines, unsafe_large_lines}
-use Rattle.tc_top.specs.Checking.{most_of, IsWithinTripleLimits, PassesTripleLimit, HasManyRows, HasFewRows, AreRowCounts, IsLeastCounter, HasSmallCounter, HasLargeCounters, IsLargeRun}
-use Rattle.tc_top.specs.Limits.{IsValidityWithin}
+use Rattle.tc_decide.specs.RowCounts.{RowCount}
+use Rattle.tc_answer.specs.Lines.{limit_word, line, limit_line, count_word, safe_line, unsafe_lines, unsafe_large_lines}
+use Rattle.tc_decide.specs.Checking.{most_of, IsWithinTripleLimits, PassesTripleLimit, HasManyRows, HasFewRows, AreRowCounts, IsLeastCounter, HasSmallCounter, HasLargeCounters, IsLargeRun}
+use Rattle.tc_decide.specs.Limits.{IsValidityWithin}
 use Rattle.tc_answer.specs.SchemaWords.{file_of}
 use Rattle.tc_answer.specs.Words.{check, run, valid, Words}
 use Rattle.tc_top.specs.SchemaTexts.{SchemaText}
-use Rattle.tc_answer.specs.declared.limits.TheConstants.{MOST_SHOWN_NODES}
+use Rattle.tc_decide.specs.declared.limits.TheConstants.{MOST_SHOWN_NODES}
 use Rattle.tc_answer.specs.declared.status.Status.{Status}
 use Rattle.tc_answer.specs.declared.status.Status.TheVariants.{Yes, No, Limit, ReadFault, WriteFault, NoMemory}
 

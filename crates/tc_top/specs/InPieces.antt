@@ -13,7 +13,7 @@ use Rattle.tc_model.specs.Validity.{IsValid}
 use Rattle.tc_read.specs.Refusals.{IsRefusedDocument}
 use Rattle.tc_read.specs.declared.faults.Reason.{Reason}
 use Rattle.tc_stream.specs.XmlTextMeasures.{tag, names, IsGood, PassesFirst, IsWithinMeasures}
-use Rattle.tc_top.specs.Limits.{IsWithinLimits, PassesLimit, IsValidityWithin, symbols_of_schema}
+use Rattle.tc_decide.specs.Limits.{IsWithinLimits, PassesLimit, IsValidityWithin, symbols_of_schema}
 use Rattle.tc_top.specs.SchemaTexts.{SchemaText, IsRefusedText}
 
 -- the first limit of `valid` that the schema passes, and its number

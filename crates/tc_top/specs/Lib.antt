@@ -1,8 +1,6 @@
-pub mod Limits
 pub mod Nothing
 pub mod SchemaTexts
 pub mod Checking
-pub mod MachinesSeen
 pub mod Comparing
 pub mod Pairs
 pub mod ComparedFiles
@@ -15,6 +13,7 @@ pub mod Headline
 pub mod Answers
 pub mod AnswersSeen
 pub mod TextsSeen
+pub mod VerdictsSeen
 pub mod OneAnswer
 pub mod Program
 pub mod Certifying

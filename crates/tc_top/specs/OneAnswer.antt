@@ -12,8 +12,8 @@ use Rattle.tc_model.specs.Trees.{Trees}
 use Rattle.tc_model.specs.XmlText.{XmlText}
 use Rattle.tc_answer.specs.Answers.{Answer, cannot_read, unsafe, unsafe_large, not_included, first_only, second_only, rows_limit, refused, work_limit, open_limit, status_of, text_of}
 use Rattle.tc_top.specs.Answers.{IsAnswer, IsAnswerOn}
-use Rattle.tc_answer.specs.Lines.{RowCount}
-use Rattle.tc_top.specs.SchemaTexts.{IsRefusedDtd}
+use Rattle.tc_decide.specs.RowCounts.{RowCount}
+use Rattle.tc_decide.specs.Texts.{IsRefusedDtd}
 use Rattle.tc_read.specs.Refusals.{IsRefusedDocument, IsRefusedSheet}
 use Rattle.tc_read.specs.declared.faults.Reason.{Reason}
 use Rattle.tc_read.specs.declared.faults.Reason.TheVariants.{Malformed, Unsupported, TooDeep}

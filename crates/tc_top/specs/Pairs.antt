@@ -2,9 +2,9 @@
 use Rattle.std.specs.Prelude.{◌≤◌}
 use Rattle.tc_answer.specs.Answers.{rows_limit}
 use Rattle.tc_answer.specs.AnswersSeen.{Says}
-use Rattle.tc_answer.specs.Lines.{RowCount}
+use Rattle.tc_decide.specs.RowCounts.{RowCount}
 use Rattle.tc_answer.specs.declared.answer.Answer.{Answer}
-use Rattle.tc_answer.specs.declared.limits.TheConstants.{MOST_ROWS, MOST_SHOWN_NODES}
+use Rattle.tc_decide.specs.declared.limits.TheConstants.{MOST_ROWS, MOST_SHOWN_NODES}
 use Rattle.tc_incl.specs.Covers.{AreOf}
 use Rattle.tc_incl.specs.Schemas.{Schemas}
 use Rattle.tc_incl.specs.declared.inclusion.Cover.{Cover}

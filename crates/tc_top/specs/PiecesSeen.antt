@@ -11,7 +11,7 @@ use Rattle.tc_model.specs.Views.{place}
 use Rattle.tc_read.specs.declared.faults.Reason.TheVariants as reasons
 use Rattle.tc_stream.specs.declared.faults.StreamFault.{StreamFault}
 use Rattle.tc_stream.specs.declared.faults.StreamFault.TheVariants as faults
-use Rattle.tc_top.specs.Limits.{IsValidityWithin, symbols_of_schema}
+use Rattle.tc_decide.specs.Limits.{IsValidityWithin, symbols_of_schema}
 use Rattle.tc_top.specs.declared.pieces.SchemaParts.{SchemaParts}
 
 -- the automaton of a schema within the limits of `valid`, and its symbols

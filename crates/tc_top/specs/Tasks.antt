@@ -1,4 +1,4 @@
--- What `check`, `prove` and `verify` are asked of two schemas and a stylesheet, and what they find.
+-- What `prove` and `verify` are asked of two schemas and a stylesheet, and what they find.
 use Rattle.std.specs.Prelude.{◌≤◌, length}
 use Rattle.tc_base.specs.Reading.{longest_text}
 use Rattle.tc_answer.specs.Answers.{Answer}
@@ -6,24 +6,22 @@ use Rattle.tc_answer.specs.AnswersSeen.{Says}
 use Rattle.tc_answer.specs.declared.answer.Answer as made
 use Rattle.tc_beh.specs.Machines.{IsMachineOf}
 use Rattle.tc_beh.specs.declared.machine.Machine.{Machine}
+use Rattle.tc_decide.specs.declared.limits.TheConstants.{GREATEST_LIMIT}
 use Rattle.tc_model.specs.Grammars.{Grammar}
 use Rattle.tc_model.specs.Sheets.{Sheet}
 use Rattle.tc_rows.specs.Triples as t
-use Rattle.tc_top.specs.Causes.{Finds}
 use Rattle.tc_top.specs.Certifying.{Certifies, Accepts}
-use Rattle.tc_top.specs.Checking.{IsWithinTripleLimits}
+use Rattle.tc_decide.specs.Checking.{IsWithinTripleLimits}
 use Rattle.tc_top.specs.declared.task.Task.{Task}
-use Rattle.tc_top.specs.declared.task.Task.TheVariants.{Check, Prove, Verify}
+use Rattle.tc_top.specs.declared.task.Task.TheVariants.{Prove, Verify}
 
 -- a count of rows, or a certificate, that is no greater than it may be
 abbrev pub IsWithinTask : Task → Type 0
-IsWithinTask (Check most) = most ≤ 4000
-IsWithinTask (Prove most) = most ≤ 4000
+IsWithinTask (Prove most) = most ≤ GREATEST_LIMIT
 IsWithinTask (Verify certificate) = length certificate.now.text.items ≤ longest_text
 
 -- what schemas and a stylesheet decide of it
 abbrev pub decided_by : Task → Grammar → Grammar → Sheet → Answer → Type 0
-decided_by (Check most) = λ i o s. Finds most i o s
 decided_by (Prove most) = λ i o s. Certifies i o s most
 decided_by (Verify certificate) = λ i o s. Accepts i o s certificate.now.text.items
 

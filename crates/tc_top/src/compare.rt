@@ -9,26 +9,26 @@ ghost use Rattle.tc_model.specs.Grammars as g;
 ghost use Rattle.tc_model.specs.Trees.{none, node_count};
 ghost use Rattle.tc_model.specs.Views as see;
 ghost use Rattle.tc_top.specs.Comparing.{AreWithinPairLimits, Compares, FindsBoth, FindsEquality, FindsInclusion, PassesPairLimit, backward, forward, symbols_of_both};
-ghost use Rattle.tc_top.specs.MachinesSeen.{IsCauseBy, IsReadOf, IsSpelled};
-ghost use Rattle.tc_top.specs.Limits.{AreFew, IsWithinLimits};
+ghost use Rattle.tc_decide.specs.MachinesSeen.{IsCauseBy, IsReadOf, IsLawful};
+ghost use Rattle.tc_decide.specs.Limits.{AreFew, IsWithinLimits};
 ghost use Rattle.tc_model.specs.States.{input};
 ghost use Rattle.tc_base.specs.declared.limits.TheConstants.{MOST_INPUT_STATES};
-ghost use Rattle.tc_answer.specs.declared.limits.TheConstants.{MOST_ROWS, MOST_SHOWN_NODES};
+ghost use Rattle.tc_decide.specs.declared.limits.TheConstants.{MOST_ROWS, MOST_SHOWN_NODES};
 ghost use Rattle.tc_top.specs.SchemaTexts.{IsSchemaOfText};
 ghost use Rattle.tc_top.specs.Pairs.{HasFewNodes, IsPairOf, SaysCovers, question as asked};
 
 use crate::empty::no_rules;
-use crate::machine::{LimitFault, grammar_within_limits, input_automaton};
 use crate::schema_texts::read_operand_schema;
 use crate::unread::answer_unaccepted;
 use bumpalo::Bump;
 use std::alloc::Global;
 use tc_alpha::{AlphaFault, Alphabet};
-use tc_answer::limits::MOST_ROWS;
-use tc_answer::{Answer, Operand, RowCount};
+use tc_answer::{Answer, Operand};
 use tc_auto::Auto;
 use tc_base::limits::MOST_SYMBOLS;
 use tc_base::{Limit, NoMemory};
+use tc_decide::limits::MOST_ROWS;
+use tc_decide::{LimitFault, RowCount, grammar_within_limits, input_automaton};
 use tc_incl::{Cover, InclFault, included};
 use tc_model::Node;
 use tc_read::Schema;
@@ -97,8 +97,8 @@ fn compare_read<'b>(
     first: &Schema<'b>,
     second: &Schema<'b>,
 ) -> Result<Answer, NoMemory>
-    requires first { IsSpelled first.now }
-    requires second { IsSpelled second.now }
+    requires first { IsLawful first.now }
+    requires second { IsLawful second.now }
     ensures { IfOk result (λ said. (x y : g.Grammar) → IsReadOf x first.now → IsReadOf y second.now
         → (answer : a.Answer) × Says said answer × FindsBoth x y (asked question) answer) }
 {
@@ -122,8 +122,8 @@ fn pair_of<'b>(
     first: &Schema<'b>,
     second: &Schema<'b>,
 ) -> Result<Pair<'b>, LimitFault>
-    requires first { IsSpelled first.now }
-    requires second { IsSpelled second.now }
+    requires first { IsLawful first.now }
+    requires second { IsLawful second.now }
     ensures ok { IfOk result (λ pair. (x y : g.Grammar) → IsReadOf x first.now → IsReadOf y second.now → IsPairOf x y pair) }
     ensures err { IfErr result (λ e. (x y : g.Grammar) → IsReadOf x first.now → IsReadOf y second.now → IsCauseBy (PassesPairLimit x y) e) }
 {

@@ -5,13 +5,13 @@ ghost use Rattle.tc_answer.specs.Answers as a;
 ghost use Rattle.tc_top.specs.Causes.{Checks};
 ghost use Rattle.tc_answer.specs.AnswersSeen.{Says};
 ghost use Rattle.tc_top.specs.Demo.{demo_line, demo_schema, demo_sheet, input_name, output_name, sheet_name};
-ghost use Rattle.tc_answer.specs.declared.limits.TheConstants.{MOST_ROWS};
+ghost use Rattle.tc_decide.specs.declared.limits.TheConstants.{MOST_ROWS};
 
-use crate::task::{Task, decide_texts};
+use crate::check::check_texts;
 use std::alloc::Global;
-use tc_answer::limits::MOST_ROWS;
 use tc_answer::{Answer, Operand, Operands};
 use tc_base::NoMemory;
+use tc_decide::limits::MOST_ROWS;
 
 /// The stylesheet that copies all elements.
 const SHEET: &[u8] =
@@ -41,7 +41,7 @@ pub fn demo(alloc: Global, size: u32) -> Result<Answer, NoMemory>
             text: sheet,
         },
     };
-    decide_texts(alloc, Task::Check(MOST_ROWS), &operands)
+    check_texts(alloc, MOST_ROWS, &operands)
 }
 
 /// The text of a schema of so many elements.

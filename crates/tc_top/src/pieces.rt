@@ -18,11 +18,10 @@ ghost use Rattle.tc_stream.specs.Streams.{StandsFor, fed_of};
 ghost use Rattle.tc_stream.specs.XmlTextMeasures.{IsGood};
 ghost use Rattle.tc_top.specs.AnswersSeen.{IsRightFor};
 ghost use Rattle.tc_top.specs.InPieces.{DecidesInPieces, PassesValidity, ValidatesInPieces};
-ghost use Rattle.tc_top.specs.Limits.{AreFew, IsWithinLimits, symbols_of_schema};
-ghost use Rattle.tc_top.specs.MachinesSeen.{IsCauseBy, IsReadOf, IsSpelled};
+ghost use Rattle.tc_decide.specs.Limits.{AreFew, IsWithinLimits, symbols_of_schema};
+ghost use Rattle.tc_decide.specs.MachinesSeen.{IsCauseBy, IsReadOf, IsLawful};
 ghost use Rattle.tc_top.specs.PiecesSeen.{IsSchemaParts, SaysFault};
 
-use crate::machine::{LimitFault, grammar_within_limits, input_automaton};
 use crate::schema_texts::read_operand_schema;
 use crate::unread::{answer_unaccepted, answer_unread};
 use crate::valid::alphabet_of;
@@ -33,6 +32,7 @@ use tc_answer::{Answer, Operand, Source, read_pair};
 use tc_auto::Auto;
 use tc_base::limits::MOST_SYMBOLS;
 use tc_base::{Limit, NoMemory};
+use tc_decide::{LimitFault, grammar_within_limits, input_automaton};
 use tc_io::Store;
 use tc_read::{Reason, Schema};
 use tc_stream::{Stream, StreamFault};
@@ -97,7 +97,7 @@ fn schema_in_pieces(
     document: &Operand<'_>,
 ) -> Result<Answer, NoMemory>
     requires some { 1 ≤ size }
-    requires schema { IsSpelled schema.now }
+    requires schema { IsLawful schema.now }
     requires document { length document.now.text.items ≤ longest_text }
     ensures { IfOk result (λ said. (x : g.Grammar) → IsReadOf x schema.now
         → (answer : a.Answer) × Says said answer × DecidesInPieces x document.now.name.now document.now.text.items answer) }
@@ -118,7 +118,7 @@ pub(crate) fn schema_parts<'b>(
     alloc: Global,
     schema: &Schema<'b>,
 ) -> Result<SchemaParts<'b>, LimitFault>
-    requires schema { IsSpelled schema.now }
+    requires schema { IsLawful schema.now }
     ensures ok { IfOk result (λ parts. (x : g.Grammar) → IsReadOf x schema.now → IsSchemaParts x parts) }
     ensures err { IfErr result (λ e. (x : g.Grammar) → IsReadOf x schema.now → IsCauseBy (PassesValidity x) e) }
 {

@@ -1,25 +1,29 @@
 // What `prove` answers.
-ghost use Rattle.std.specs.Prelude.{◌≡◌, ◌≤◌, IfOk};
+ghost use Rattle.std.specs.Prelude.{◌≤◌, IfOk};
 ghost use Rattle.tc_answer.specs.Answers as a;
 ghost use Rattle.tc_answer.specs.AnswersSeen.{Says};
 ghost use Rattle.tc_beh.specs.Machines.{IsMachine, IsMachineOf};
 ghost use Rattle.tc_close.specs.Certified.{IsLeastCertificate, IsSafeWithin};
 ghost use Rattle.tc_close.specs.Decisions.{IsCloseCause};
+ghost use Rattle.tc_decide.specs.declared.limits.TheConstants.{GREATEST_LIMIT};
+ghost use Rattle.tc_model.specs.Trees.{none, IsDocument};
+ghost use Rattle.tc_model.specs.Views as see;
 ghost use Rattle.tc_rows.specs.Triples as t;
-ghost use Rattle.tc_top.specs.Causes.{Finds};
+ghost use Rattle.tc_top.specs.AnswersSeen.{IsRunOf};
 ghost use Rattle.tc_top.specs.Certifying.{Certifies};
-ghost use Rattle.tc_top.specs.Checking.{IsWithinTripleLimits};
+ghost use Rattle.tc_decide.specs.Checking.{IsWithinTripleLimits};
 
-use crate::check::show;
+use crate::verdicts::answer_unsafe;
 use bumpalo::Bump;
 use std::alloc::Global;
-use tc_answer::limits::MOST_OUTPUTS;
-use tc_answer::{Answer, RowCount};
+use tc_answer::Answer;
 use tc_base::NoMemory;
 use tc_beh::Machine;
 use tc_cert::{CertWriteFault, write_cert};
 use tc_close::{CloseFault, Proof};
-use tc_model::CertData;
+use tc_decide::limits::MOST_OUTPUTS;
+use tc_decide::{RowCount, output_of};
+use tc_model::{CertData, Node};
 
 /// Decides by the machine whether its stylesheet is safe.
 pub(crate) fn certify<'b>(
@@ -28,7 +32,7 @@ pub(crate) fn certify<'b>(
     most: u32,
     machine: &Machine<'b>,
 ) -> Result<Answer, NoMemory>
-    requires few { most ≤ 4000 }
+    requires few { most ≤ GREATEST_LIMIT }
     requires machine { IsMachine machine.now }
     ensures { IfOk result (λ said. (x : t.Triple) → IsMachineOf x machine.now → IsWithinTripleLimits x.input x.output (t.sheet x)
         → (answer : a.Answer) × Says said answer × Certifies x.input x.output (t.sheet x) most answer) }
@@ -65,4 +69,20 @@ fn rows_limit(alloc: Global, most: u32, fault: CloseFault) -> Result<Answer, NoM
         CloseFault::TooManyOutputs => { Answer::rows_limit(alloc, RowCount::Outputs, MOST_OUTPUTS) }
         CloseFault::NoMemory => Err(NoMemory),
     }
+}
+
+/// The answer that a document is a counterexample, with its result, unless its run passes a limit.
+fn show<'b>(
+    alloc: Global,
+    arena: &'b Bump,
+    machine: &Machine<'b>,
+    document: &Node<'b>,
+) -> Result<Answer, NoMemory>
+    requires machine { IsMachine machine.now }
+    requires document { IsDocument (see.before document.now none) }
+    ensures { IfOk result (λ said. (x : t.Triple) → IsMachineOf x machine.now
+        → (answer : a.Answer) × Says said answer × IsRunOf (t.sheet x) (see.before document.now none) answer) }
+{
+    let output = output_of(arena, machine, document)?;
+    answer_unsafe(alloc, document, &output)
 }

@@ -13,7 +13,7 @@ ghost use Rattle.tc_answer.specs.Answers as a;
 ghost use Rattle.tc_top.specs.Causes.{Runs, RunsTexts};
 ghost use Rattle.tc_answer.specs.AnswersSeen.{Says};
 ghost use Rattle.tc_top.specs.AnswersSeen.{IsRightFor};
-ghost use Rattle.tc_top.specs.Limits.{AreFew, IsWithinSheetLimits, symbols_of_sheet};
+ghost use Rattle.tc_decide.specs.Limits.{AreFew, IsWithinSheetLimits, symbols_of_sheet};
 ghost use Rattle.tc_answer.specs.Words as w;
 ghost use Rattle.tc_answer.specs.Words.{Words};
 

@@ -1,78 +1,33 @@
 // The texts of schemas, by the words that name them.
-ghost use Rattle.std.specs.Prelude.{◌≤◌, List, ℕ, IfOk, IfErr, length};
+ghost use Rattle.std.specs.Prelude.{◌≤◌, IfOk, IfErr, length};
 ghost use Rattle.tc_base.specs.Reading.{longest_text};
-ghost use Rattle.tc_dtd.specs.Declarations.{Declaration, AreDeclarations};
-ghost use Rattle.tc_dtd.specs.DtdText.{DtdText};
-ghost use Rattle.tc_dtd.specs.Faults.{IsFaultOf};
-ghost use Rattle.tc_dtd.specs.Refused.{Refuses};
-ghost use Rattle.tc_dtd.specs.Views as see;
 ghost use Rattle.tc_read.specs.Faults.{IsUnaccepted};
-ghost use Rattle.tc_top.specs.SchemaTexts.{IsRefusedDtd, IsRefusedText, IsSchemaOfText, IsSchemaOfDtd};
+ghost use Rattle.tc_top.specs.SchemaTexts.{IsRefusedText, IsSchemaOfText, IsTextOf};
 
 use bumpalo::Bump;
 use tc_answer::{Operand, schema_root};
-use tc_base::Limit;
-use tc_base::limits::{GREATEST_PATTERN_DEPTH, MOST_ELEMENT_PATTERNS, MOST_PATTERN_NODES};
-use tc_dtd::{Dtd, DtdFault, DtdGrammarFault, grammar, read_dtd};
-use tc_read::{Reason, Schema, TextFault, read_schema};
+use tc_decide::{SchemaText, read_schema};
+use tc_read::{Schema, TextFault};
 
-/// The schema of an operand: of RELAX NG's compact syntax, or of declarations of elements where its word says so.
+/// The text of an operand: in RELAX NG's compact syntax, or declarations of elements where its word says so.
+pub fn schema_text<'t>(operand: &'t Operand<'_>) -> SchemaText<'t>
+    ensures { IsTextOf operand.now.name.now operand.now.text.items result }
+{
+    match schema_root(operand.name) {
+        Some(root) => SchemaText::Declarations(root, &operand.text),
+        None => SchemaText::Compact(&operand.text),
+    }
+}
+
+/// The schema of an operand.
 pub fn read_operand_schema<'b>(
     arena: &'b Bump,
     operand: &Operand<'_>,
 ) -> Result<Schema<'b>, TextFault>
     requires { length operand.now.text.items ≤ longest_text }
     ensures ok { IfOk result (IsSchemaOfText operand.now.name.now operand.now.text.items) }
-    ensures no { IfErr result (IsUnaccepted (IsRefusedText operand.now.name.now operand.now.text.items)) }
+    ensures no { IfErr result (IsUnaccepted
+        (IsRefusedText operand.now.name.now operand.now.text.items)) }
 {
-    match schema_root(operand.name) {
-        Some(root) => read_declarations(arena, &operand.text, root),
-        None => read_schema(arena, &operand.text),
-    }
-}
-
-/// The schema of declarations of elements, with `root` as the document's element.
-fn read_declarations<'b>(arena: &'b Bump, text: &[u8], root: &str) -> Result<Schema<'b>, TextFault>
-    requires { length text.now ≤ longest_text }
-    ensures ok { IfOk result (IsSchemaOfDtd root.now text.now) }
-    ensures no { IfErr result (IsUnaccepted (IsRefusedDtd text.now)) }
-{
-    match read_dtd(arena, text) {
-        Ok(dtd) => schema_of_dtd(arena, &dtd, root),
-        Err(fault) => Err(text_fault(fault)),
-    }
-}
-
-/// The schema of a document type definition. A limit that it passes isn't told before all texts were read.
-fn schema_of_dtd<'b>(arena: &'b Bump, dtd: &Dtd<'b>, root: &str) -> Result<Schema<'b>, TextFault>
-    requires { AreDeclarations (see.declarations dtd.now) }
-    ensures ok { IfOk result (λ schema. (bytes : List ℕ) → DtdText bytes (see.declarations dtd.now) → IsSchemaOfDtd root.now bytes schema) }
-    ensures no { IfErr result (λ e. (bytes : List ℕ) → IsUnaccepted (IsRefusedDtd bytes) e) }
-{
-    match grammar(arena, dtd, root) {
-        Ok(grammar) => Ok(Schema::Small(grammar)),
-        Err(DtdGrammarFault::TooManyNodes) => {
-            Ok(Schema::TooLarge(Limit::Pattern, MOST_PATTERN_NODES))
-        }
-        Err(DtdGrammarFault::TooNested) => {
-            Ok(Schema::TooLarge(Limit::Depth, GREATEST_PATTERN_DEPTH))
-        }
-        Err(DtdGrammarFault::TooManyElements) => {
-            Ok(Schema::TooLarge(Limit::Elements, MOST_ELEMENT_PATTERNS))
-        }
-        Err(DtdGrammarFault::NoMemory) => Err(TextFault::NoMemory),
-    }
-}
-
-/// Why a text isn't read as a document type definition.
-fn text_fault(fault: DtdFault) -> TextFault
-    ensures { (bytes : List ℕ) → IsFaultOf bytes fault → IsUnaccepted (IsRefusedDtd bytes) result }
-{
-    match fault {
-        DtdFault::Malformed(place) => TextFault::Refused(Reason::Malformed, place),
-        DtdFault::Unsupported(place, why) => TextFault::Refused(Reason::Unsupported(why), place),
-        DtdFault::TooDeep(place) => TextFault::Refused(Reason::TooDeep, place),
-        DtdFault::Twice(place) => TextFault::Refused(Reason::Twice, place),
-        DtdFault::NoMemory => TextFault::NoMemory,
-    }
+    read_schema(arena, schema_text(operand))
 }

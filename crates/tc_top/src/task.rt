@@ -1,4 +1,4 @@
-// What `check`, `prove` and `verify` answer by the texts of two schemas and a stylesheet.
+// What `prove` and `verify` answer by the texts of two schemas and a stylesheet.
 ghost use Rattle.std.specs.Prelude.{◌≤◌, IfOk, length};
 ghost use Rattle.tc_answer.specs.Answers as a;
 ghost use Rattle.tc_answer.specs.AnswersSeen.{Says};
@@ -7,22 +7,21 @@ ghost use Rattle.tc_beh.specs.Machines.{IsMachine};
 ghost use Rattle.tc_top.specs.Causes.{OfTexts};
 ghost use Rattle.tc_top.specs.Tasks.{FindsBy, IsWithinTask, decided_by};
 
-use crate::check::decide;
 use crate::prove::certify;
-use crate::texts::{early_answer, machine_of_texts};
+use crate::schema_texts::schema_text;
+use crate::verdicts::answer_failure;
 use crate::verify::verify_text;
 use bumpalo::Bump;
 use std::alloc::Global;
 use tc_answer::{Answer, Operand, Operands};
 use tc_base::NoMemory;
 use tc_beh::Machine;
+use tc_decide::machine_of_texts;
 
 /// What is asked of two schemas and a stylesheet.
 #[derive(Clone, Copy)]
 pub enum Task<'a> {
-    /// Whether the stylesheet is safe, with so many rows of trees and of lists of trees at most.
-    Check(u32),
-    /// The certificate that it is, with so many at most.
+    /// The certificate that the stylesheet is safe, with so many rows of trees and of lists of trees at most.
     Prove(u32),
     /// Whether the text of this operand is such a certificate.
     Verify(&'a Operand<'a>),
@@ -43,9 +42,11 @@ pub fn decide_texts(
         operands.now.input.text.items operands.now.output.text.items operands.now.sheet.text.items answer) }
 {
     let arena = Bump::new(alloc);
-    match machine_of_texts(alloc, &arena, operands) {
+    let input = schema_text(&operands.input);
+    let output = schema_text(&operands.output);
+    match machine_of_texts(&arena, alloc, input, output, &operands.sheet.text) {
         Ok(machine) => carry_out(alloc, &arena, task, &machine),
-        Err(undecided) => early_answer(undecided),
+        Err(failure) => answer_failure(alloc, operands, failure),
     }
 }
 
@@ -61,7 +62,6 @@ fn carry_out<'b>(
     ensures { IfOk result (FindsBy task.entry machine.now) }
 {
     match task {
-        Task::Check(most) => decide(alloc, arena, most, machine),
         Task::Prove(most) => certify(alloc, arena, most, machine),
         Task::Verify(certificate) => verify_text(alloc, machine, &certificate.text),
     }

@@ -11,7 +11,7 @@ ghost use Rattle.tc_model.specs.Symbols.{symbol_count};
 ghost use Rattle.tc_rows.specs.Triples as t;
 ghost use Rattle.tc_top.specs.Certifying.{Accepts, told_by};
 ghost use Rattle.tc_top.specs.CertifyingSeen.{ranges_of};
-ghost use Rattle.tc_top.specs.Checking.{IsWithinTripleLimits};
+ghost use Rattle.tc_decide.specs.Checking.{IsWithinTripleLimits};
 
 use bumpalo::Bump;
 use std::alloc::Global;

@@ -11,7 +11,7 @@ pub returns-in-Ok-clause-ok : goal.returns-in-Ok-clause-ok
 returns-in-Ok-clause-ok g c =
     let read = c.in-Ok.ensures in
     let o = c.in-Ok.operands in
-    IfOk-weaker c.decide_texts.result _ _ (λ said h words are. (
+    IfOk-weaker c.check_texts.result _ _ (λ said h words are. (
       _,
       read.ok,
       (
@@ -20,7 +20,7 @@ returns-in-Ok-clause-ok g c =
         decided are (refl, (refl, (refl, refl)))
             (checked (three_named (λ x y z. Checks (most_rows c.args.limit) x y z o.input.text.items o.output.text.items o.sheet.text.items h.0) (sym read.input) (sym read.output) (sym read.sheet) (checks_at c.row_limit.ensures h.2))),
       ),
-    )) c.decide_texts.ensures
+    )) c.check_texts.ensures
 
 pub returns-in-Err-clause-ok : goal.returns-in-Err-clause-ok
 returns-in-Err-clause-ok g c =

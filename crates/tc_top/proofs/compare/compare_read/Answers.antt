@@ -2,10 +2,10 @@ use Rattle.std.proofs.Common.{subst, sym}
 use Rattle.std.proofs.lemmas.Result.{IfOk-weaker}
 use Rattle.tc_answer.specs.Answers as a
 use Rattle.tc_top.specs.Comparing.{FindsBoth, PassesPairLimit}
-use Rattle.tc_top.specs.MachinesSeen.{IsCauseBy}
+use Rattle.tc_decide.specs.MachinesSeen.{IsCauseBy}
 use Rattle.tc_top.specs.Pairs.{question}
 use Rattle.tc_top.proofs.Compared.{passes_both, says_limit}
-use Rattle.tc_top.proofs.MachineLimits.{some_grammar}
+use Rattle.tc_decide.proofs.MachineLimits.{some_grammar}
 use Rattle.tc_top.proofs.compare.compare_read.Goals as goal
 
 pub decide_inclusion-requires : goal.decide_inclusion-requires

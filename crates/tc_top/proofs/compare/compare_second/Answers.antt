@@ -1,7 +1,7 @@
 use Rattle.std.proofs.lemmas.Result.{IfOk-weaker}
 use Rattle.tc_answer.specs.Answers as a
 use Rattle.tc_top.specs.Comparing.{second_refused, both_schemas}
-use Rattle.tc_top.proofs.Checked.{read_of}
+use Rattle.tc_top.proofs.SchemaTextLaws.{read_of, lawful_read}
 use Rattle.tc_top.proofs.Unaccepted.{refused_as}
 use Rattle.tc_top.specs.SchemaTexts.{IsRefusedText}
 use Rattle.tc_top.proofs.compare.compare_second.Goals as goal
@@ -14,10 +14,10 @@ returns-in-Err c =
     (a.refused c.args.second.now.name.now found.0 found.1, found.2, second_refused (read_of _ _ _ c.requires.first).1 found.3)) c.answer_unaccepted.ensures
 
 pub compare_read-requires-clause-first : goal.compare_read-requires-clause-first
-compare_read-requires-clause-first c = (_, _, c.requires.first)
+compare_read-requires-clause-first c = lawful_read _ _ _ c.requires.first
 
 pub compare_read-requires-clause-second : goal.compare_read-requires-clause-second
-compare_read-requires-clause-second c = (_, _, c.in-Ok.ensures.ok)
+compare_read-requires-clause-second c = lawful_read _ _ _ c.in-Ok.ensures.ok
 
 pub returns-in-Ok : goal.returns-in-Ok
 returns-in-Ok c =

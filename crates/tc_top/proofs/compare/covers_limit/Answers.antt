@@ -1,7 +1,7 @@
 use Rattle.std.proofs.Common.{subst}
 use Rattle.std.proofs.lemmas.Result.{IfOk-weaker}
-use Rattle.tc_answer.specs.Lines.{trees, hedges}
-use Rattle.tc_answer.specs.declared.limits.TheConstants.{MOST_ROWS}
+use Rattle.tc_decide.specs.RowCounts.{trees, hedges}
+use Rattle.tc_decide.specs.declared.limits.TheConstants.{MOST_ROWS}
 use Rattle.tc_incl.specs.Answers.{IsCause}
 use Rattle.tc_top.specs.Comparing.{many_trees, many_hedges}
 use Rattle.tc_top.proofs.compare.covers_limit.Goals as goal

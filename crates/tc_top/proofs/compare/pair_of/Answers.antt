@@ -2,7 +2,7 @@ use Rattle.std.proofs.Common.{subst}
 use Rattle.tc_read.proofs.Exits.{err_is}
 use Rattle.tc_top.specs.Comparing.{by_first, by_second}
 use Rattle.tc_top.proofs.Compared.{is_pair}
-use Rattle.tc_top.proofs.MachineLimits.{cause_on}
+use Rattle.tc_decide.proofs.MachineLimits.{cause_on}
 use Rattle.tc_top.proofs.compare.pair_of.Goals as goal
 
 pub returns-in_err-one-clause-err : goal.returns-in_err-one-clause-err

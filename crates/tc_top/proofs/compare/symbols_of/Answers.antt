@@ -9,7 +9,7 @@ use Rattle.tc_read.proofs.Exits.{err_is}
 use Rattle.tc_top.specs.Comparing.{by_first, by_second, by_symbols, symbols_of_both}
 use Rattle.tc_top.specs.Nothing.{no_rules}
 use Rattle.tc_top.proofs.Compared.{symbols_beside}
-use Rattle.tc_top.proofs.MachineLimits.{cause_on, small_is}
+use Rattle.tc_decide.proofs.MachineLimits.{cause_on, small_is}
 use Rattle.tc_top.proofs.compare.symbols_of.Goals as goal
 
 -- the symbols of the grammars that were read

@@ -1,6 +1,6 @@
 use Rattle.std.proofs.Common.{subst}
 use Rattle.std.proofs.lemmas.Result.{IfOk-weaker}
-use Rattle.tc_answer.specs.declared.limits.TheConstants.{MOST_ROWS}
+use Rattle.tc_decide.specs.declared.limits.TheConstants.{MOST_ROWS}
 use Rattle.tc_incl.specs.Answers.{IsAnswer}
 use Rattle.tc_top.specs.Comparing.{forward}
 use Rattle.tc_top.proofs.Compared.{tells_included, tells_none, tells_not}

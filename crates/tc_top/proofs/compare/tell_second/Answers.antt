@@ -1,7 +1,7 @@
 use Rattle.std.proofs.Common.{subst, inr}
 use Rattle.std.proofs.lemmas.Result.{IfOk-weaker}
 use Rattle.tc_answer.specs.Answers.{equal}
-use Rattle.tc_answer.specs.declared.limits.TheConstants.{MOST_ROWS}
+use Rattle.tc_decide.specs.declared.limits.TheConstants.{MOST_ROWS}
 use Rattle.tc_incl.specs.Answers.{IsAnswer}
 use Rattle.tc_top.specs.Comparing.{backward}
 use Rattle.tc_top.proofs.Compared.{never, tells_equal, tells_no_one, tells_second_beyond}

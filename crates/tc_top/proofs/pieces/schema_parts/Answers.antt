@@ -1,7 +1,7 @@
 use Rattle.tc_read.proofs.Exits.{err_is}
 use Rattle.tc_top.specs.InPieces.{passes_schema}
 use Rattle.tc_top.proofs.InPieces.{is_parts}
-use Rattle.tc_top.proofs.MachineLimits.{cause_on}
+use Rattle.tc_decide.proofs.MachineLimits.{cause_on}
 use Rattle.tc_top.proofs.pieces.schema_parts.Goals as goal
 
 pub returns-in_err-automaton-clause-err : goal.returns-in_err-automaton-clause-err

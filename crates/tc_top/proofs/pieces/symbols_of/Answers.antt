@@ -5,8 +5,8 @@ use Rattle.tc_model.specs.States.{input}
 use Rattle.tc_model.specs.Symbols.{Mention, symbol_count}
 use Rattle.tc_read.proofs.Exits.{err_is}
 use Rattle.tc_top.specs.InPieces.{passes_schema, passes_symbols}
-use Rattle.tc_top.specs.Limits.{AreFew, symbols_of_schema}
-use Rattle.tc_top.proofs.MachineLimits.{cause_on, small_is}
+use Rattle.tc_decide.specs.Limits.{AreFew, symbols_of_schema}
+use Rattle.tc_decide.proofs.MachineLimits.{cause_on, small_is}
 use Rattle.tc_top.proofs.pieces.symbols_of.Goals as goal
 
 pub returns-in_err-grammar-clause-err : goal.returns-in_err-grammar-clause-err

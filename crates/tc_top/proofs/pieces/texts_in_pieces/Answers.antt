@@ -2,12 +2,12 @@ use Rattle.std.proofs.lemmas.Result.{IfOk-weaker}
 use Rattle.tc_answer.specs.Answers as a
 use Rattle.tc_top.specs.InPieces.{schema_is_refused, schema_is_read}
 use Rattle.tc_top.specs.SchemaTexts.{IsRefusedText}
-use Rattle.tc_top.proofs.Checked.{read_of}
+use Rattle.tc_top.proofs.SchemaTextLaws.{read_of, lawful_read}
 use Rattle.tc_top.proofs.Unaccepted.{refused_as}
 use Rattle.tc_top.proofs.pieces.texts_in_pieces.Goals as goal
 
 pub schema_in_pieces-requires-clause-schema : goal.schema_in_pieces-requires-clause-schema
-schema_in_pieces-requires-clause-schema c = (_, _, c.in-Ok.ensures.ok)
+schema_in_pieces-requires-clause-schema c = lawful_read _ _ _ c.in-Ok.ensures.ok
 
 pub returns-in-Ok : goal.returns-in-Ok
 returns-in-Ok c =

@@ -2,7 +2,7 @@ use Rattle.std.proofs.Common.{subst}
 use Rattle.std.proofs.lemmas.Result.{IfOk-weaker}
 use Rattle.tc_answer.specs.Answers as a
 use Rattle.tc_close.specs.Certified.{IsProved}
-use Rattle.tc_top.proofs.Checked.{triple_is}
+use Rattle.tc_decide.proofs.Triples.{triple_is}
 use Rattle.tc_top.proofs.CertifyingCalls.{long_unwritten, far, unsafe_run}
 use Rattle.tc_top.proofs.prove.certify.Goals as goal
 

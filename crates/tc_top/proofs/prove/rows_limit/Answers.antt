@@ -1,10 +1,10 @@
 use Rattle.std.proofs.Common.{subst}
 use Rattle.std.proofs.lemmas.Result.{IfOk-weaker}
 use Rattle.tc_answer.specs.Answers as a
-use Rattle.tc_answer.specs.Lines as count
-use Rattle.tc_answer.specs.declared.limits.TheConstants.{MOST_OUTPUTS}
+use Rattle.tc_decide.specs.RowCounts as count
+use Rattle.tc_decide.specs.declared.limits.TheConstants.{MOST_OUTPUTS}
 use Rattle.tc_close.specs.Decisions.{IsCloseCause}
-use Rattle.tc_top.proofs.Checked.{itself}
+use Rattle.tc_decide.proofs.Triples.{itself}
 use Rattle.tc_top.proofs.CertifyingCalls.{many_rows}
 use Rattle.tc_top.proofs.prove.rows_limit.Goals as goal
 

@@ -10,7 +10,7 @@ use Rattle.tc_rules.specs.Faults.{IsCause}
 use Rattle.tc_model.specs.StateCounts.{PassNone}
 use Rattle.tc_answer.specs.Answers as a
 use Rattle.tc_top.specs.Causes.{Runs, sheet_passes}
-use Rattle.tc_top.specs.Limits.{symbols_of_sheet, IsWithinSheetLimits, sheet_symbols, sheet_predicates, sheet_ancestors, sheet_selects}
+use Rattle.tc_decide.specs.Limits.{symbols_of_sheet, IsWithinSheetLimits, sheet_symbols, sheet_predicates, sheet_ancestors, sheet_selects}
 use Rattle.tc_top.specs.Nothing.{no_schema}
 use Rattle.tc_top.proofs.run.run_on.Goals as goal
 

@@ -8,17 +8,11 @@ use Rattle.tc_top.specs.declared.task.Task.{Task}
 use Rattle.tc_top.specs.declared.task.Task.TheVariants.{Verify}
 use Rattle.tc_top.proofs.task.carry_out.Goals as goal
 
-pub decide-requires-clause-few : goal.decide-requires-clause-few
-decide-requires-clause-few c = subst IsWithinTask c.in-Check.is c.requires.task
-
 pub certify-requires-clause-few : goal.certify-requires-clause-few
 certify-requires-clause-few c = subst IsWithinTask c.in-Prove.is c.requires.task
 
 pub verify_text-requires-clause-text : goal.verify_text-requires-clause-text
 verify_text-requires-clause-text c = subst (λ (w : List ℕ). length w ≤ longest_text) (sym c.deref.ensures.value) (subst IsWithinTask c.in-Verify.is c.requires.task)
-
-pub returns-in-Check : goal.returns-in-Check
-returns-in-Check c = subst (λ (w : Task). IfOk c.decide.result (FindsBy w c.args.machine.now)) (sym c.in-Check.is) c.decide.ensures
 
 pub returns-in-Prove : goal.returns-in-Prove
 returns-in-Prove c = subst (λ (w : Task). IfOk c.certify.result (FindsBy w c.args.machine.now)) (sym c.in-Prove.is) c.certify.ensures

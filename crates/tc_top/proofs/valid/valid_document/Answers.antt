@@ -1,10 +1,13 @@
 use Rattle.std.proofs.Common.{subst}
 use Rattle.std.proofs.lemmas.Result.{IfOk-weaker}
 use Rattle.tc_top.specs.InPieces.{PassesValidity}
-use Rattle.tc_top.specs.MachinesSeen.{IsCauseBy}
-use Rattle.tc_top.proofs.Checked.{read_of}
+use Rattle.tc_decide.specs.MachinesSeen.{IsCauseBy}
+use Rattle.tc_top.proofs.SchemaTextLaws.{read_of, lawful_read}
 use Rattle.tc_top.proofs.TextsDecided.{text_validated}
 use Rattle.tc_top.proofs.valid.valid_document.Goals as goal
+
+pub schema_parts-requires-clause-schema : goal.schema_parts-requires-clause-schema
+schema_parts-requires-clause-schema c = lawful_read _ _ _ c.requires.read.2
 
 pub returns-in-Ok : goal.returns-in-Ok
 returns-in-Ok c =

@@ -3,7 +3,7 @@ use Rattle.std.proofs.lemmas.Result.{IfOk-weaker}
 use Rattle.tc_answer.specs.Answers as a
 use Rattle.tc_model.specs.Symbols.{Mention, symbol_count}
 use Rattle.tc_top.specs.Certifying.{told_by, accepts, no_certificate}
-use Rattle.tc_top.proofs.Checked.{itself, triple_is}
+use Rattle.tc_decide.proofs.Triples.{itself, triple_is}
 use Rattle.tc_verify.specs.Rejects.{IsBroken, IsCause}
 use Rattle.tc_verify.specs.declared.reject.RejectRule.{RejectRule}
 use Rattle.tc_top.proofs.verify.verify_data.Goals as goal

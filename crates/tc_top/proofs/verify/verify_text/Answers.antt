@@ -8,7 +8,7 @@ use Rattle.tc_cert.specs.declared.ranges.Ranges.{Ranges}
 use Rattle.tc_close.proofs.Pushed.{some_of}
 use Rattle.tc_model.specs.CertificateFits.{AllFit, IsFirstUnfit}
 use Rattle.tc_top.specs.Certifying.{no_text}
-use Rattle.tc_top.proofs.Checked.{triple_is}
+use Rattle.tc_decide.proofs.Triples.{triple_is}
 use Rattle.tc_top.proofs.CertifyingCalls.{unfit_line}
 use Rattle.tc_top.proofs.verify.verify_text.Goals as goal
 

@@ -1,0 +1,14 @@
+use Rattle.std.proofs.Common.{sym, subst}
+use Rattle.std.proofs.lemmas.Result.{IfOk-weaker}
+use Rattle.tc_answer.specs.AnswersSeen.{Says}
+use Rattle.tc_top.specs.VerdictsSeen.{limit_answer}
+use Rattle.tc_top.proofs.verdicts.answer_limit.Goals as goal
+
+pub returns-in-Texts : goal.returns-in-Texts
+returns-in-Texts c = IfOk-weaker c.limit.result _ _ (λ said says. subst (λ k. Says said (limit_answer k c.args.number)) (sym c.in-Texts.is) says) c.limit.ensures
+
+pub returns-in-Rows : goal.returns-in-Rows
+returns-in-Rows c = IfOk-weaker c.rows_limit.result _ _ (λ said says. subst (λ k. Says said (limit_answer k c.args.number)) (sym c.in-Rows.is) says) c.rows_limit.ensures
+
+pub returns-in-Nodes : goal.returns-in-Nodes
+returns-in-Nodes c = IfOk-weaker c.counterexample_limit.result _ _ (λ said says. subst (λ k. Says said (limit_answer k c.args.number)) (sym c.in-Nodes.is) says) c.counterexample_limit.ensures
