@@ -1,7 +1,4 @@
-pub mod Settled
-pub mod Plain
 pub mod Gathers
-pub mod SetSteps
 pub mod SetsRuns
 pub mod Thinning
 pub mod Leading
@@ -9,5 +6,3 @@ pub mod Bounds
 pub mod TableRows
 pub mod Puts
 pub mod Sides
-pub mod Remembered
-pub mod Passed

@@ -6,7 +6,6 @@ ghost use Rattle.tc_hedge.specs.Items.{IsOfSomeSchema};
 ghost use Rattle.tc_mat.specs.Matrix.{HasPair, IsComposition, IsMatrix};
 
 use crate::table::{push_allowed, table_of};
-use crate::valid::{is_valid, is_valid_document};
 use std::alloc::Global;
 use tc_alpha::{Alphabet, Sym};
 use tc_auto::{Arrow, Auto, Edge};
@@ -77,8 +76,7 @@ impl<'b> Hedge<'b> {
     ghost use Rattle.tc_model.specs.States as s;
     ghost use Rattle.tc_model.specs.Symbols.{Mention, symbol_count, symbol_of, symbols_of};
     ghost use Rattle.tc_model.specs.Trees as t;
-    ghost use Rattle.tc_model.specs.SimplifiesLaws.{IsStart};
-    ghost use Rattle.tc_model.specs.Validity.{IsValid, IsValidOutput};
+    ghost use Rattle.tc_model.specs.Validity.{IsValidOutput};
 
     /// A hedge of an automaton, by the symbols of an alphabet.
     pub fn of(alloc: Global, auto: Auto<'b>, alphabet: &Alphabet) -> Result<Hedge<'b>, NoMemory>
@@ -260,30 +258,5 @@ impl<'b> Hedge<'b> {
             led = composition(self.alloc, &led, &one)?;
         }
         Ok(led)
-    }
-
-    /// Whether a tree is a document that is valid for the schema, whose start is made of references and
-    /// choices alone.
-    ///
-    /// # Errors
-    ///
-    /// There is no memory for the sets of states.
-    pub fn valid(&self, doc: &Node<'_>) -> Result<bool, NoMemory>
-        ensures { IfOk result (λ b. (side : s.Side) (x : g.Grammar) → a.Stands side x self.now.auto → IsStart x.start → IsTrue b ↔ IsValid x (see.before doc.now t.none)) }
-    {
-        is_valid(self.alloc, &self.auto, doc)
-    }
-
-    /// Whether a document is valid for the schema, whose start is made of references and choices alone. What is
-    /// known to be a document, as what was read is, isn't looked at for that again.
-    ///
-    /// # Errors
-    ///
-    /// There is no memory for the sets of states.
-    pub fn valid_document(&self, doc: &Node<'_>) -> Result<bool, NoMemory>
-        requires { t.IsDocument (see.before doc.now t.none) }
-        ensures { IfOk result (λ b. (side : s.Side) (x : g.Grammar) → a.Stands side x self.now.auto → IsStart x.start → IsTrue b ↔ IsValid x (see.before doc.now t.none)) }
-    {
-        is_valid_document(self.alloc, &self.auto, doc)
     }
 }

@@ -1,17 +1,8 @@
-//! What trees lead from one state of a schema to another, as sets of pairs, and validity by states.
+//! What trees lead from one state of a schema to another, as sets of pairs.
 #![tactic(auto)]
 
-mod children;
-mod documents;
 pub mod hedge;
-mod keys;
 pub mod laws;
-mod memo;
-mod numbers;
-mod sets;
-mod steps;
 mod table;
-pub mod valid;
 
 pub use hedge::Hedge;
-pub use valid::{is_valid, is_valid_document};

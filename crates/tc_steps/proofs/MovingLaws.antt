@@ -35,9 +35,6 @@ pub states_grown : (old new : List Numbers) (st : States) (s : Numbers) → Grow
 states_grown old new (Numbered k) s g a = g k s a
 states_grown old new (Own u) s g a = a
 
-pub same_grown : (sets : List Numbers) → Grown sets sets
-same_grown sets k s at = at
-
 -- what two clauses say of one value
 pub both_some : {T : Type 0} (r : Option T) {P Q R : T → Type 0} → IfSome r P → IfSome r Q → ((v : T) → P v → Q v → R v) → IfSome r R
 both_some None p q f = tt
@@ -47,9 +44,6 @@ module _ (x : Grammar) where
   -- exactly those numbers in another set
   pub led_of_copy : (n : ExpandedName) (kids : Trees) (s t : Numbers) → ((j : ℕ) → Has s j ↔ Has t j) → AreLed x n kids t → AreLed x n kids s
   led_of_copy n kids s t same led j = (λ h. (led j).0 ((same j).0 h), λ l. (same j).1 ((led j).1 l))
-
-  led_to_copy : (n : ExpandedName) (kids : Trees) (s t : Numbers) → ((j : ℕ) → Has s j ↔ Has t j) → AreLed x n kids s → AreLed x n kids t
-  led_to_copy n kids s t same led j = (λ h. (led j).0 ((same j).1 h), λ l. (same j).0 ((led j).1 l))
 
   pub right_moved : (a b : Auto) (s u : List Mention) (cs ds : List Class) → b ≡ a → u ≡ s → ds ≡ cs → IsFor x a s cs → IsFor x b u ds
   right_moved a b s u cs ds e f g w =
@@ -82,10 +76,6 @@ module _ (x : Grammar) where
           led = i.led;
         })) known.places.items are.names;
   }
-
-  -- nothing changes
-  pub keeps_same : (m : Moves) → AreRight x m → Keeps x m m
-  keeps_same m r = record { right = r; symbols = refl; known = λ k h. h; sets = same_grown m.sets.sets.keys }
 
   -- what the steps keep of symbols grows, and so do the sets
   pub keeps_grown : (old new : Moves) → IsFor x new.steps.auto.now new.steps.alphabet.now new.steps.classes.items → new.steps.alphabet.now ≡ old.steps.alphabet.now

@@ -12,12 +12,13 @@ use crate::triples::{LONGEST, machine_of_texts, schema_of};
 use bumpalo::Bump;
 use std::alloc::Global;
 use std::test::Fail;
+use tc_alpha::Alphabet;
 use tc_auto::Auto;
 use tc_beh::{HRow, Machine, Rows, TRow};
-use tc_hedge::is_valid;
-use tc_model::Node;
+use tc_model::{Grammar, Node, Pat, Sheet};
 use tc_read::read_document;
 use tc_run::run;
+use tc_steps::{Judge, take_tree};
 
 /// How many triples a test makes.
 const TRIPLES: u32 = 50;
@@ -160,27 +161,54 @@ fn told_by_row(
     Ok(Told::Live { is_valid, is_fit })
 }
 
+static NOTHING: Grammar<'static> = Grammar {
+    start: Pat::NotAllowed,
+    elements: &[],
+};
+
+/// A stylesheet without rules.
+static NO_RULES: Sheet<'static> = Sheet {
+    modes: 1,
+    eaches: 0,
+    rules: &[],
+    named: &[],
+};
+
+/// What decides validity for a schema: the automaton of its contents, and its symbols.
+#[derive(Drop)]
+struct Contents<'b> {
+    auto: Auto<'b>,
+    alphabet: Alphabet,
+}
+
 /// What decides validity by the schemas alone.
 #[derive(Drop)]
 struct Schemas<'b> {
-    input: Auto<'b>,
-    anywhere: Auto<'b>,
-    output: Auto<'b>,
+    input: Contents<'b>,
+    anywhere: Contents<'b>,
+    output: Contents<'b>,
 }
 
-/// The automaton of a schema's text, if there is one.
-fn automaton_of<'b>(alloc: Global, arena: &'b Bump, text: &str) -> Option<Auto<'b>> {
-    match schema_of(arena, text) {
-        Ok(grammar) => Auto::of(alloc, &grammar, 256).ok(),
-        Err(_) => None,
-    }
+/// What decides validity for a schema's text, if there is one.
+fn contents_of<'b>(alloc: Global, arena: &'b Bump, text: &str) -> Option<Contents<'b>> {
+    let grammar = schema_of(arena, text).ok()?;
+    let auto = Auto::contents(alloc, &grammar, 256).ok()?;
+    let alphabet = Alphabet::of(alloc, &grammar, &NOTHING, &NO_RULES).ok()?;
+    Some(Contents { auto, alphabet })
+}
+
+/// Whether a document is valid for a schema, if it can be told.
+fn is_valid(alloc: Global, schema: &Contents<'_>, document: &Node<'_>) -> Option<bool> {
+    let mut judge = Judge::new(alloc, &schema.auto, &schema.alphabet).ok()?;
+    take_tree(&mut judge, document)?;
+    Some(judge.is_valid())
 }
 
 /// Those of a triple, if there are some.
 fn schemas_of<'b>(alloc: Global, arena: &'b Bump, triple: &TripleTexts) -> Option<Schemas<'b>> {
-    let input = automaton_of(alloc, arena, triple.input.as_str())?;
-    let anywhere = automaton_of(alloc, arena, triple.anywhere.as_str())?;
-    let output = automaton_of(alloc, arena, triple.output.as_str())?;
+    let input = contents_of(alloc, arena, triple.input.as_str())?;
+    let anywhere = contents_of(alloc, arena, triple.anywhere.as_str())?;
+    let output = contents_of(alloc, arena, triple.output.as_str())?;
     Some(Schemas {
         input,
         anywhere,
@@ -193,7 +221,7 @@ fn is_fit<'b>(
     alloc: Global,
     arena: &'b Bump,
     machine: &Machine<'b>,
-    output: &Auto<'_>,
+    output: &Contents<'_>,
     document: &Node<'b>,
 ) -> Option<bool>
     requires machine { IsMachine machine.now }
@@ -203,7 +231,7 @@ fn is_fit<'b>(
         return None;
     };
     match result {
-        [node] => is_valid(alloc, output, node).ok(),
+        [node] => is_valid(alloc, output, node),
         _ => Some(false),
     }
 }
@@ -219,11 +247,11 @@ fn told_of_document<'b>(
     requires machine { IsMachine machine.now }
     requires document { IsDocument (before document.now none) }
 {
-    let is_live = is_valid(alloc, &schemas.anywhere, document).ok()?;
+    let is_live = is_valid(alloc, &schemas.anywhere, document)?;
     if !is_live {
         return Some(Told::Dead);
     }
-    let is_valid = is_valid(alloc, &schemas.input, document).ok()?;
+    let is_valid = is_valid(alloc, &schemas.input, document)?;
     let is_fit = is_fit(alloc, arena, machine, &schemas.output, document)?;
     Some(Told::Live { is_valid, is_fit })
 }
