@@ -98,7 +98,8 @@ fn word_of(kind: Limit) -> &'static str
 
 /// The answer by the pieces of its text.
 fn answer_of(alloc: Global, status: Status, pieces: &[&str]) -> Result<Answer, NoMemory>
-    ensures { IfOk result (λ said. (said.status ≡ status) × (see_text said.text ≡ flat_map (λ piece. piece.now) pieces.now)) }
+    ensures { IfOk result (λ said. (said.status ≡ status)
+        × (see_text said.text ≡ flat_map (λ piece. piece.now) pieces.now)) }
 {
     let text = pieces.concat(alloc)?;
     Ok(Answer {
@@ -109,7 +110,8 @@ fn answer_of(alloc: Global, status: Status, pieces: &[&str]) -> Result<Answer, N
 
 /// The answer that a limit is passed, by its word and its number.
 fn over(alloc: Global, word: &str, number: u32) -> Result<Answer, NoMemory>
-    ensures { IfOk result (λ said. (said.status ≡ Status.Limit) × (see_text said.text ≡ limit_line word.now number)) }
+    ensures { IfOk result
+        (λ said. (said.status ≡ Status.Limit) × (see_text said.text ≡ limit_line word.now number)) }
 {
     let mut digits = itoa::Buffer::new();
     answer_of(
@@ -128,7 +130,9 @@ fn refused_by<'w>(
     place: u32,
 ) -> Result<Answer, NoMemory>
     ensures { IfOk result (λ said. (said.status ≡ Status.Refused)
-        × (see_text said.text ≡ line (codes "refused " ++ name.now ++ codes " " ++ (front.now ++ word.now) ++ codes " at " ++ decimal place))) }
+        × (see_text said.text
+        ≡ line (codes "refused " ++ name.now ++ codes " " ++ (front.now ++ word.now)
+        ++ codes " at " ++ decimal place))) }
 {
     let mut digits = itoa::Buffer::new();
     answer_of(
@@ -155,7 +159,8 @@ fn rejected_at<'w>(
     behind: &'w str,
 ) -> Result<Answer, NoMemory>
     ensures { IfOk result (λ said. (said.status ≡ Status.No)
-        × (see_text said.text ≡ line (codes "rejected " ++ (decimal number ++ (rule.now ++ behind.now))))) }
+        × (see_text said.text
+        ≡ line (codes "rejected " ++ (decimal number ++ (rule.now ++ behind.now))))) }
 {
     let mut digits = itoa::Buffer::new();
     answer_of(
@@ -173,7 +178,9 @@ fn rejected_around<'w>(
     local: &'w str,
 ) -> Result<Answer, NoMemory>
     ensures { IfOk result (λ said. (said.status ≡ Status.No)
-        × (see_text said.text ≡ line (codes "rejected " ++ (decimal number ++ (codes " wrap " ++ (namespace_text uri.now ++ local.now)))))) }
+        × (see_text said.text
+        ≡ line (codes "rejected "
+        ++ (decimal number ++ (codes " wrap " ++ (namespace_text uri.now ++ local.now)))))) }
 {
     if uri.is_empty() {
         return rejected_at(alloc, number, " wrap ", local);
@@ -202,7 +209,8 @@ fn showing(
     shown: &[Node<'_>],
     behind: &[u8],
 ) -> Result<Answer, NoMemory>
-    ensures { IfOk result (λ said. (said.status ≡ status) × (see_text said.text ≡ front.now ++ (printed (trees shown.now) ++ behind.now))) }
+    ensures { IfOk result (λ said. (said.status ≡ status)
+        × (see_text said.text ≡ front.now ++ (printed (trees shown.now) ++ behind.now))) }
 {
     let mut text = Buffer::new(alloc);
     text.put_shown(front, shown, behind)?;
@@ -477,7 +485,8 @@ impl Answer {
         document: &[Node<'_>],
         output: &[Node<'_>],
     ) -> Result<Answer, NoMemory>
-        ensures { IfOk result (λ said. Says said (a.unsafe (trees document.now) (trees output.now))) }
+        ensures { IfOk result
+            (λ said. Says said (a.unsafe (trees document.now) (trees output.now))) }
     {
         let mut text = Buffer::new(alloc);
         text.put_shown(b"unsafe\ndocument ", document, b"\noutput ")?;

@@ -51,7 +51,8 @@ impl Buffer {
 
     /// Puts the text of trees at the end.
     fn put_trees(&mut self, nodes: &[Node<'_>]) -> Result<(), NoMemory>
-        ensures { OnOk result (self.new.bytes.items ≡ self.old.bytes.items ++ printed (trees nodes.now)) }
+        ensures { OnOk result
+            (self.new.bytes.items ≡ self.old.bytes.items ++ printed (trees nodes.now)) }
     {
         match print(nodes, self) {
             Ok(()) => Ok(()),
@@ -66,7 +67,8 @@ impl Buffer {
         nodes: &[Node<'_>],
         behind: &[u8],
     ) -> Result<(), NoMemory>
-        ensures { OnOk result (self.new.bytes.items ≡ self.old.bytes.items ++ (front.now ++ (printed (trees nodes.now) ++ behind.now))) }
+        ensures { OnOk result (self.new.bytes.items ≡ self.old.bytes.items
+            ++ (front.now ++ (printed (trees nodes.now) ++ behind.now))) }
     {
         self.put(front)?;
         self.put_trees(nodes)?;

@@ -52,7 +52,8 @@ const MOST_DEMO: u32 = 40;
 
 /// The command that the words give. It takes no memory.
 pub fn read_words(words: &[String]) -> Option<Command<'_>>
-    ensures { MatchOption result (IsNoCommand (texts words.now)) (λ c. Words (texts words.now) (command c)) }
+    ensures { MatchOption result (IsNoCommand (texts words.now))
+        (λ c. Words (texts words.now) (command c)) }
 {
     let (name, rest) = words.split_first()?;
     match name.as_str() {
@@ -74,8 +75,10 @@ pub fn read_words(words: &[String]) -> Option<Command<'_>>
 
 /// A check, or, where it `proves`, the same with a certificate: the limit, and the operands.
 fn read_check(words: &[String], proves: bool) -> Option<Command<'_>>
-    ensures { MatchOption result (IsNoCommand ((if proves then codes "prove" else codes "check") ∷ texts words.now))
-        (λ c. Words ((if proves then codes "prove" else codes "check") ∷ texts words.now) (command c)) }
+    ensures { MatchOption result
+        (IsNoCommand ((if proves then codes "prove" else codes "check") ∷ texts words.now))
+        (λ c. Words ((if proves then codes "prove" else codes "check") ∷ texts words.now)
+        (command c)) }
 {
     let (limit, operands) = read_option(words, "--limit", MOST_LIMIT)?;
     let triple = read_triple(operands)?;
@@ -88,7 +91,8 @@ fn read_check(words: &[String], proves: bool) -> Option<Command<'_>>
 
 /// A demonstration: its size, and nothing else.
 fn read_demo(words: &[String]) -> Option<Command<'_>>
-    ensures { MatchOption result (IsNoCommand (codes "demo" ∷ texts words.now)) (λ c. Words (codes "demo" ∷ texts words.now) (command c)) }
+    ensures { MatchOption result (IsNoCommand (codes "demo" ∷ texts words.now))
+        (λ c. Words (codes "demo" ∷ texts words.now) (command c)) }
 {
     let (numeral, rest) = words.split_first()?;
     if !rest.is_empty() {
@@ -100,7 +104,8 @@ fn read_demo(words: &[String]) -> Option<Command<'_>>
 
 /// A validation: of a document that comes in pieces, where their size stands before the operands, or of a whole one.
 fn read_valid(words: &[String]) -> Option<Command<'_>>
-    ensures { MatchOption result (IsNoCommand (codes "valid" ∷ texts words.now)) (λ c. Words (codes "valid" ∷ texts words.now) (command c)) }
+    ensures { MatchOption result (IsNoCommand (codes "valid" ∷ texts words.now))
+        (λ c. Words (codes "valid" ∷ texts words.now) (command c)) }
 {
     let (size, operands) = read_option(words, "--stream", LARGEST_PIECE)?;
     let (schema, document) = read_pair(operands)?;
@@ -122,9 +127,12 @@ fn read_option<'w>(
     requires mark { is_operand mark.now ≡ false }
     requires most { most ≤ 65536 }
     ensures { MatchOption result
-        ((number : Option ℕ) (operands : List (List ℕ)) → Numbered mark.now most (texts words.now) number operands → AreOperands operands → ⊥)
+        ((number : Option ℕ) (operands : List (List ℕ))
+        → Numbered mark.now most (texts words.now) number operands → AreOperands operands → ⊥)
         (λ read. Numbered mark.now most (texts words.now) read.0 (texts read.1.now)
-        × ((number : Option ℕ) (operands : List (List ℕ)) → Numbered mark.now most (texts words.now) number operands → AreOperands operands → operands ≡ texts read.1.now)) }
+        × ((number : Option ℕ) (operands : List (List ℕ))
+        → Numbered mark.now most (texts words.now) number operands → AreOperands operands
+        → operands ≡ texts read.1.now)) }
 {
     let Some((option, rest)) = words.split_first() else {
         return Some((None, words));
@@ -140,8 +148,10 @@ fn read_option<'w>(
 /// Three operands, the first two schemas.
 fn read_triple(words: &[String]) -> Option<Triple<'_>>
     ensures { MatchOption result
-        ((a b c : List ℕ) → texts words.now ≡ a ∷ b ∷ c ∷ [] → AreOperands (texts words.now) → AreSchemas (a ∷ b ∷ []) → ⊥)
-        (λ t. (texts words.now ≡ t.input.now ∷ t.output.now ∷ t.sheet.now ∷ []) × AreOperands (texts words.now)
+        ((a b c : List ℕ) → texts words.now ≡ a ∷ b ∷ c ∷ [] → AreOperands (texts words.now)
+        → AreSchemas (a ∷ b ∷ []) → ⊥)
+        (λ t. (texts words.now ≡ t.input.now ∷ t.output.now ∷ t.sheet.now ∷ [])
+        × AreOperands (texts words.now)
         × AreSchemas (t.input.now ∷ t.output.now ∷ [])) }
 {
     if !are_operands(words, 3) {
@@ -161,7 +171,8 @@ fn read_triple(words: &[String]) -> Option<Triple<'_>>
 
 /// A verification: three operands, the first two schemas, and then the name of a certificate.
 fn read_verify(words: &[String]) -> Option<Command<'_>>
-    ensures { MatchOption result (IsNoCommand (codes "verify" ∷ texts words.now)) (λ c. Words (codes "verify" ∷ texts words.now) (command c)) }
+    ensures { MatchOption result (IsNoCommand (codes "verify" ∷ texts words.now))
+        (λ c. Words (codes "verify" ∷ texts words.now) (command c)) }
 {
     if !are_operands(words, 4) {
         return None;
@@ -181,7 +192,8 @@ fn read_verify(words: &[String]) -> Option<Command<'_>>
 
 /// An upgrade: the name of a certificate.
 fn read_upgrade(words: &[String]) -> Option<Command<'_>>
-    ensures { MatchOption result (IsNoCommand (codes "upgrade" ∷ texts words.now)) (λ c. Words (codes "upgrade" ∷ texts words.now) (command c)) }
+    ensures { MatchOption result (IsNoCommand (codes "upgrade" ∷ texts words.now))
+        (λ c. Words (codes "upgrade" ∷ texts words.now) (command c)) }
 {
     if !are_operands(words, 1) {
         return None;
@@ -203,8 +215,10 @@ fn read_pair(words: &[String]) -> Option<(&str, &str)>
 
 /// An inclusion, or, where it goes both ways, an equality: two schemas.
 fn read_inclusion(words: &[String], both_ways: bool) -> Option<Command<'_>>
-    ensures { MatchOption result (IsNoCommand ((if both_ways then codes "same" else codes "include") ∷ texts words.now))
-        (λ c. Words ((if both_ways then codes "same" else codes "include") ∷ texts words.now) (command c)) }
+    ensures { MatchOption result
+        (IsNoCommand ((if both_ways then codes "same" else codes "include") ∷ texts words.now))
+        (λ c. Words ((if both_ways then codes "same" else codes "include") ∷ texts words.now)
+        (command c)) }
 {
     let (first, second) = read_pair(words)?;
     if !are_schemas(first, second) {
@@ -244,7 +258,8 @@ fn is_operand(word: &str) -> bool
 /// The number from 1 to `most` that the word spells, in decimal digits without a leading zero.
 fn read_number(word: &str, most: u32) -> Option<u32>
     requires { most ≤ 65536 }
-    ensures { MatchOption result ((number : ℕ) → IsNumeral most word.now number → ⊥) (IsNumeral most word.now) }
+    ensures { MatchOption result ((number : ℕ) → IsNumeral most word.now number → ⊥)
+        (IsNumeral most word.now) }
 {
     let digits = word.as_bytes();
     if digits.first() == Some(&b'0') {

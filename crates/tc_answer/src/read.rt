@@ -49,10 +49,14 @@ pub fn read_triple<'w, S: Store>(
     ensures output { IfOk result (λ read. read.output.name.now ≡ triple.entry.output.now) }
     ensures sheet { IfOk result (λ read. read.sheet.name.now ≡ triple.entry.sheet.now) }
     ensures ok { IfOk result (λ read. Happened S.read_gives S.holds S.faults store.old store.new
-        (read_of (schema triple.entry.input.now) read.input ∷ read_of (schema triple.entry.output.now) read.output
+        (read_of (schema triple.entry.input.now) read.input ∷ read_of
+        (schema triple.entry.output.now) read.output
         ∷ read_of (plain triple.entry.sheet.now) read.sheet ∷ [])) }
-    ensures err { IfErr result (λ unread. (reads : List Read) × Happened S.read_gives S.holds S.faults store.old store.new reads
-        × IsFirstUnread (schema triple.entry.input.now ∷ schema triple.entry.output.now ∷ plain triple.entry.sheet.now ∷ []) reads unread) }
+    ensures err { IfErr result (λ unread. (reads : List Read)
+        × Happened S.read_gives S.holds S.faults store.old store.new reads
+        × IsFirstUnread
+        (schema triple.entry.input.now ∷ schema triple.entry.output.now ∷ plain
+        triple.entry.sheet.now ∷ []) reads unread) }
 {
     let input = read_operand(alloc, Source::schema(triple.input), store)?;
     let output = read_operand(alloc, Source::schema(triple.output), store)?;
@@ -78,10 +82,15 @@ pub fn read_verified<'w, S: Store>(
     ensures sheet { IfOk result (λ read. read.0.sheet.name.now ≡ triple.entry.sheet.now) }
     ensures certificate { IfOk result (λ read. read.1.name.now ≡ certificate.now) }
     ensures ok { IfOk result (λ read. Happened S.read_gives S.holds S.faults store.old store.new
-        (read_of (schema triple.entry.input.now) read.0.input ∷ read_of (schema triple.entry.output.now) read.0.output
-        ∷ read_of (plain triple.entry.sheet.now) read.0.sheet ∷ read_of (plain certificate.now) read.1 ∷ [])) }
-    ensures err { IfErr result (λ unread. (reads : List Read) × Happened S.read_gives S.holds S.faults store.old store.new reads
-        × IsFirstUnread (schema triple.entry.input.now ∷ schema triple.entry.output.now ∷ plain triple.entry.sheet.now ∷ plain certificate.now ∷ []) reads unread) }
+        (read_of (schema triple.entry.input.now) read.0.input ∷ read_of
+        (schema triple.entry.output.now) read.0.output
+        ∷ read_of (plain triple.entry.sheet.now) read.0.sheet ∷ read_of
+        (plain certificate.now) read.1 ∷ [])) }
+    ensures err { IfErr result (λ unread. (reads : List Read)
+        × Happened S.read_gives S.holds S.faults store.old store.new reads
+        × IsFirstUnread
+        (schema triple.entry.input.now ∷ schema triple.entry.output.now ∷ plain
+        triple.entry.sheet.now ∷ plain certificate.now ∷ []) reads unread) }
 {
     let operands = read_triple(alloc, triple, store)?;
     let certificate = read_operand(alloc, Source::plain(certificate), store)?;
@@ -101,7 +110,8 @@ pub fn read_pair<'w, S: Store>(
     ensures second { IfOk result (λ read. read.1.name.now ≡ second.entry.word.now) }
     ensures ok { IfOk result (λ read. Happened S.read_gives S.holds S.faults store.old store.new
         (read_of (source first.entry) read.0 ∷ read_of (source second.entry) read.1 ∷ [])) }
-    ensures err { IfErr result (λ unread. (reads : List Read) × Happened S.read_gives S.holds S.faults store.old store.new reads
+    ensures err { IfErr result (λ unread. (reads : List Read)
+        × Happened S.read_gives S.holds S.faults store.old store.new reads
         × IsFirstUnread (source first.entry ∷ source second.entry ∷ []) reads unread) }
 {
     let one = read_operand(alloc, first, store)?;
@@ -118,8 +128,13 @@ pub fn read_operand<'w, S: Store>(
     ensures same { S.holds store.new ≡ S.holds store.old }
     ensures count { S.faults store.old ≤ S.faults store.new }
     ensures named { IfOk result (λ operand. operand.name.now ≡ named.entry.word.now) }
-    ensures ok { IfOk result (λ operand. Happened S.read_gives S.holds S.faults store.old store.new (read_of (source named.entry) operand ∷ [])) }
-    ensures err { IfErr result (λ unread. (fault : StoreFault) × Happened S.read_gives S.holds S.faults store.old store.new ((named.entry.file.now, Err fault) ∷ [])
+    ensures ok { IfOk result
+        (λ operand. Happened S.read_gives S.holds S.faults store.old store.new
+        (read_of (source named.entry) operand ∷ [])) }
+    ensures err { IfErr result
+        (λ unread. (fault : StoreFault)
+        × Happened S.read_gives S.holds S.faults store.old store.new
+        ((named.entry.file.now, Err fault) ∷ [])
         × IsUnread named.entry.word.now fault unread) }
 {
     let name = named.word;

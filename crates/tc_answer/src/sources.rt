@@ -36,7 +36,8 @@ impl<'w> Source<'w> {
 
 /// The name of the document's element, where a word in a schema's place names declarations of elements.
 pub fn schema_root(word: &str) -> Option<&str>
-    ensures { MatchOption result (root_of word.now ≡ None) (λ root. root_of word.now ≡ Some root.now) }
+    ensures { MatchOption result (root_of word.now ≡ None)
+        (λ root. root_of word.now ≡ Some root.now) }
 {
     let (root, _) = parts(word)?;
     Some(root)
@@ -54,7 +55,8 @@ pub fn is_schema_word(word: &str) -> bool
 
 /// What stands before the first colon behind `dtd:` and what stands behind it, where a word begins with `dtd:`.
 fn parts(word: &str) -> Option<(&str, &str)>
-    ensures { MatchOption result (behind_dtd word.now ≡ None) (λ p. (rest : List ℕ) × (behind_dtd word.now ≡ Some rest)
+    ensures { MatchOption result (behind_dtd word.now ≡ None)
+        (λ p. (rest : List ℕ) × (behind_dtd word.now ≡ Some rest)
         × (p.0.now ≡ before_first is_colon rest) × (p.1.now ≡ after_first is_colon rest)) }
 {
     let rest = after_mark(word, "dtd:")?;

@@ -38,14 +38,19 @@ fn put_hit(
 )
     requires place { IsPlace place.now }
     requires node { kind_of place.now.node ≡ node_of (letter_of letter).kind }
-    requires letter { (x : Triple) × IsPlaceIn x place.now × letters.IsLetter x.symbols (predicates x) (letter_of letter) }
+    requires letter { (x : Triple) × IsPlaceIn x place.now
+        × letters.IsLetter x.symbols (predicates x) (letter_of letter) }
     requires part { IsPartTemplate (told place.now.rules.now).sheet template }
     requires depth { depth_of template ≤ depth_of_sheet (told place.now.rules.now).sheet }
     requires state { state < move_count (told place.now.rules.now) }
     requires sets { IsOpenAt place.now (depth_of_sheet (told place.now.rules.now).sheet) sets.old }
     ensures same { IsBeside place.now.output.now place.now.outputs.now sets.old sets.new }
-    ensures pairs { (x : Triple) (g : Going) (q : ℕ) → IsPlaceIn x place.now → AreCalled x place.now → letters.IsLetter x.symbols (predicates x) (letter_of letter) → IsMoveAt x.rules state g
-        → IsMeantAt x g q (letter_of letter) template.entry → Extends sets.old.out sets.new.out (hit_pairs x g q (letter_of letter) (kind_of place.now.node) (below_of x place.now)) }
+    ensures pairs { (x : Triple) (g : Going) (q : ℕ) → IsPlaceIn x place.now
+        → AreCalled x place.now → letters.IsLetter x.symbols (predicates x) (letter_of letter)
+        → IsMoveAt x.rules state g
+        → IsMeantAt x g q (letter_of letter) template.entry
+        → Extends sets.old.out sets.new.out
+        (hit_pairs x g q (letter_of letter) (kind_of place.now.node) (below_of x place.now)) }
 {
     if !place.rules.sel_hits(state, letter.kind, letter.marks) {
         return;
@@ -57,12 +62,18 @@ fn put_hit(
 fn put_further(place: &Place<'_, '_>, sym: Sym, marks: Marks, state: u32, sets: &mut OpenSets)
     requires place { IsPlace place.now }
     requires node { kind_of place.now.node ≡ node_of (of_symbol sym.0) }
-    requires letter { (x : Triple) × IsPlaceIn x place.now × letters.IsLetter x.symbols (predicates x) (asked.letter (Kind.Elem sym) marks) }
+    requires letter { (x : Triple) × IsPlaceIn x place.now
+        × letters.IsLetter x.symbols (predicates x) (asked.letter (Kind.Elem sym) marks) }
     requires state { state < move_count (told place.now.rules.now) }
     requires sets { IsOpenAt place.now 0 sets.old }
     ensures same { IsBeside place.now.output.now place.now.outputs.now sets.old sets.new }
-    ensures pairs { (x : Triple) (g : Going) (at : IsMoveAt x.rules state g) → IsPlaceIn x place.now → letters.IsLetter x.symbols (predicates x) (asked.letter (Kind.Elem sym) marks)
-        → Extends sets.old.out sets.new.out (pairs_from x (entries_by place.now.outputs.now.matrices place.now.entries.now) place.now.above (moving at.mode g.path (step x g.path g.state (asked.letter (Kind.Elem sym) marks)))) }
+    ensures pairs { (x : Triple) (g : Going) (at : IsMoveAt x.rules state g)
+        → IsPlaceIn x place.now
+        → letters.IsLetter x.symbols (predicates x) (asked.letter (Kind.Elem sym) marks)
+        → Extends sets.old.out sets.new.out
+        (pairs_from x
+        (entries_by place.now.outputs.now.matrices place.now.entries.now) place.now.above
+        (moving at.mode g.path (step x g.path g.state (asked.letter (Kind.Elem sym) marks)))) }
 {
     match place.rules.sel_step(state, sym, marks) {
         None => {}
@@ -80,15 +91,21 @@ pub(crate) fn put_entry_above(
 )
     requires place { IsPlace place.now }
     requires node { kind_of place.now.node ≡ node_of (letter_of letter).kind }
-    requires letter { (x : Triple) × IsPlaceIn x place.now × letters.IsLetter x.symbols (predicates x) (letter_of letter) }
+    requires letter { (x : Triple) × IsPlaceIn x place.now
+        × letters.IsLetter x.symbols (predicates x) (letter_of letter) }
     requires part { IsPartTemplate (told place.now.rules.now).sheet template }
     requires depth { depth_of template ≤ depth_of_sheet (told place.now.rules.now).sheet }
     requires state { state < move_count (told place.now.rules.now) }
     requires sets { IsOpenAt place.now (depth_of_sheet (told place.now.rules.now).sheet) sets.old }
     ensures same { IsBeside place.now.output.now place.now.outputs.now sets.old sets.new }
-    ensures pairs { (x : Triple) (g : Going) (q : ℕ) (at : IsMoveAt x.rules state g) → IsPlaceIn x place.now → AreCalled x place.now → letters.IsLetter x.symbols (predicates x) (letter_of letter)
+    ensures pairs { (x : Triple) (g : Going) (q : ℕ) (at : IsMoveAt x.rules state g)
+        → IsPlaceIn x place.now → AreCalled x place.now
+        → letters.IsLetter x.symbols (predicates x) (letter_of letter)
         → IsMeantAt x g q (letter_of letter) template.entry
-        → Extends sets.old.out sets.new.out (pairs_at x place.now.bears (entries_by place.now.outputs.now.matrices place.now.entries.now) place.now.looks.now q place.now.above at.mode g letter.marks.0 (letter_of letter).kind) }
+        → Extends sets.old.out sets.new.out
+        (pairs_at x place.now.bears
+        (entries_by place.now.outputs.now.matrices place.now.entries.now) place.now.looks.now q
+        place.now.above at.mode g letter.marks.0 (letter_of letter).kind) }
 {
     put_hit(place, letter, template, state, sets);
     match letter.kind {

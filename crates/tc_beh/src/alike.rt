@@ -41,7 +41,10 @@ fn passes(asked: &Asked<'_>, name: &Name<'_>) -> bool
 /// Adds whether the class of each element pattern holds a symbol.
 fn add_classes(key: &mut Vec<bool>, schema: &Hedge<'_>, symbol: Sym) -> Result<(), NoMemory>
     requires { symbol.0 < schema.now.symbols }
-    ensures { OnOk result ((side : s.Side) (g : Grammar) (symbols : List Mention) → h.Stands side g symbols schema.now → (name : n.ExpandedName) → symbol_of symbols name ≡ symbol.0 → key.new.items ≡ key.old.items ++ classes_holding g name) }
+    ensures { OnOk result
+        ((side : s.Side) (g : Grammar) (symbols : List Mention)
+        → h.Stands side g symbols schema.now → (name : n.ExpandedName) → symbol_of symbols name
+        ≡ symbol.0 → key.new.items ≡ key.old.items ++ classes_holding g name) }
 {
     for before in 0..schema.auto().patterns() {
         let is_held = schema.allows(before + 1, symbol);
@@ -52,7 +55,8 @@ fn add_classes(key: &mut Vec<bool>, schema: &Hedge<'_>, symbol: Sym) -> Result<(
 
 /// Adds whether an element of a name passes the node tests that ask each of these.
 fn add_passes(key: &mut Vec<bool>, asked: &[Asked<'_>], name: &Name<'_>) -> Result<(), NoMemory>
-    ensures { OnOk result (key.new.items ≡ key.old.items ++ tests_passed (asked_tests asked.now) (see.name name.now)) }
+    ensures { OnOk result (key.new.items ≡ key.old.items
+        ++ tests_passed (asked_tests asked.now) (see.name name.now)) }
 {
     for one in asked {
         let is_passed = passes(one, name);
@@ -74,7 +78,8 @@ fn key_of(
     requires input { symbol.0 < input.now.symbols }
     requires output { symbol.0 < output.now.symbols }
     requires symbol { symbol.0 < symbol_count alphabet.now }
-    ensures { IfOk result (λ k. (x : Triple) → AreSchemas x input.now output.now → alphabet.now ≡ x.symbols → k.items ≡ key x (asked_tests asked.now) symbol.0) }
+    ensures { IfOk result (λ k. (x : Triple) → AreSchemas x input.now output.now → alphabet.now
+        ≡ x.symbols → k.items ≡ key x (asked_tests asked.now) symbol.0) }
 {
     let name = alphabet.fresh(arena, symbol)?;
     let mut key = Vec::new(alloc);
@@ -93,7 +98,9 @@ fn put_first(
 ) -> Result<(), NoMemory>
     requires { length firsts.old.items ≡ symbol }
     ensures count { OnOk result (length firsts.new.items ≡ symbol + 1) }
-    ensures firsts { OnOk result ((key_at : ℕ → List Bool) → AreFirsts key_at known.old firsts.old.items symbol → key_at symbol ≡ bits.items → AreFirsts key_at known.new firsts.new.items (symbol + 1)) }
+    ensures firsts { OnOk result
+        ((key_at : ℕ → List Bool) → AreFirsts key_at known.old firsts.old.items symbol
+        → key_at symbol ≡ bits.items → AreFirsts key_at known.new firsts.new.items (symbol + 1)) }
 {
     if let Some(first) = known.get(&bits).copied() {
         firsts.push(first)?;
@@ -115,8 +122,10 @@ fn firsts_of(
     requires input { input.now.symbols ≡ symbol_count alphabet.now }
     requires output { output.now.symbols ≡ symbol_count alphabet.now }
     ensures count { IfOk result (λ v. length v.items ≡ symbol_count alphabet.now) }
-    ensures firsts { IfOk result (λ v. (x : Triple) → AreSchemas x input.now output.now → alphabet.now ≡ x.symbols
-        → (a first : ℕ) → slice_get v.items a ≡ Some first → IsFirst (key x (asked_tests asked.now)) a first) }
+    ensures firsts { IfOk result
+        (λ v. (x : Triple) → AreSchemas x input.now output.now → alphabet.now ≡ x.symbols
+        → (a first : ℕ) → slice_get v.items a ≡ Some first
+        → IsFirst (key x (asked_tests asked.now)) a first) }
 {
     let arena = Bump::new(alloc);
     let mut known = IndexMap::new(alloc);
@@ -149,7 +158,8 @@ impl Alike {
     /// There is no memory.
     pub fn of(alloc: Global, machine: &Machine<'_>) -> Result<Alike, NoMemory>
         requires { IsMachine machine.now }
-        ensures { IfOk result (λ r. (x : Triple) → IsMachineOf x machine.now → AreFirstAlike x r.firsts.items) }
+        ensures { IfOk result
+            (λ r. (x : Triple) → IsMachineOf x machine.now → AreFirstAlike x r.firsts.items) }
     {
         let asked = asked_of(alloc, machine.rules.sheet())?;
         let firsts = firsts_of(
@@ -165,7 +175,8 @@ impl Alike {
     /// The first symbol that is alike. Elements of both around the same trees have the same rows.
     pub fn first(&self, symbol: u32) -> u32
         requires { symbol < length self.now.firsts.items }
-        ensures { (x : Triple) → AreFirstAlike x self.now.firsts.items → IsFirstAlike x symbol result }
+        ensures { (x : Triple) → AreFirstAlike x self.now.firsts.items
+            → IsFirstAlike x symbol result }
     {
         self.firsts[symbol as usize]
     }

@@ -31,7 +31,8 @@ pub(crate) fn is_set(flags: &[u32], place: usize) -> bool
 fn put_arrows(arrows: &[Arrow], hedge: &[u32], out: &mut Room)
     requires within { AreWithin out.old.flags arrows.now }
     ensures beside { IsRoomBeside out.old out.new }
-    ensures others { (k : ℕ) → (k < 2) ⊎ (2 + out.old.flags ≤ k) → get_or out.new.numbers.items k 0 ≡ get_or out.old.numbers.items k 0 }
+    ensures others { (k : ℕ) → (k < 2) ⊎ (2 + out.old.flags ≤ k) → get_or out.new.numbers.items k 0
+        ≡ get_or out.old.numbers.items k 0 }
     ensures flags { PutsAlong arrows.now hedge.now out.old.numbers.items out.new.numbers.items }
 {
     for arrow in arrows {
@@ -45,8 +46,10 @@ fn put_arrows(arrows: &[Arrow], hedge: &[u32], out: &mut Room)
 fn put_states_of_text(auto: &Auto<'_>, hedge: &[u32], out: &mut Room)
     requires flags { out.old.flags ≡ states_of auto.now }
     ensures beside { IsRoomBeside out.old out.new }
-    ensures others { (k : ℕ) → (k < 2) ⊎ (2 + out.old.flags ≤ k) → get_or out.new.numbers.items k 0 ≡ get_or out.old.numbers.items k 0 }
-    ensures flags { (patterns : List ℕ) → Puts auto.now hedge.now true patterns out.new.numbers.items }
+    ensures others { (k : ℕ) → (k < 2) ⊎ (2 + out.old.flags ≤ k) → get_or out.new.numbers.items k 0
+        ≡ get_or out.old.numbers.items k 0 }
+    ensures flags { (patterns : List ℕ)
+        → Puts auto.now hedge.now true patterns out.new.numbers.items }
 {
     out.clear_flags();
     put_arrows(auto.text_arrows(), hedge, out);
@@ -57,7 +60,8 @@ fn put_states_of_element(auto: &Auto<'_>, hedge: &[u32], patterns: &[u32], out: 
     requires flags { out.old.flags ≡ states_of auto.now }
     requires patterns { length patterns.now ≡ patterns_of auto.now }
     ensures beside { IsRoomBeside out.old out.new }
-    ensures others { (k : ℕ) → (k < 2) ⊎ (2 + out.old.flags ≤ k) → get_or out.new.numbers.items k 0 ≡ get_or out.old.numbers.items k 0 }
+    ensures others { (k : ℕ) → (k < 2) ⊎ (2 + out.old.flags ≤ k) → get_or out.new.numbers.items k 0
+        ≡ get_or out.old.numbers.items k 0 }
     ensures flags { Puts auto.now hedge.now false patterns.now out.new.numbers.items }
 {
     out.clear_flags();
@@ -73,7 +77,8 @@ fn put_states(auto: &Auto<'_>, hedge: &[u32], is_text: bool, patterns: &[u32], o
     requires flags { out.old.flags ≡ states_of auto.now }
     requires patterns { length patterns.now ≡ patterns_of auto.now }
     ensures beside { IsRoomBeside out.old out.new }
-    ensures others { (k : ℕ) → (k < 2) ⊎ (2 + out.old.flags ≤ k) → get_or out.new.numbers.items k 0 ≡ get_or out.old.numbers.items k 0 }
+    ensures others { (k : ℕ) → (k < 2) ⊎ (2 + out.old.flags ≤ k) → get_or out.new.numbers.items k 0
+        ≡ get_or out.old.numbers.items k 0 }
     ensures flags { Puts auto.now hedge.now is_text patterns.now out.new.numbers.items }
 {
     if is_text {
@@ -92,11 +97,15 @@ pub(crate) fn has_flag(flags: &[u32]) -> bool
 
 /// Leaves for each look the first hit, or else the one behind it.
 fn put_first_looks(first: &[u32], second: &[u32], out: &mut Room)
-    requires first { length first.now + 2 + out.old.flags + out.old.entries ≡ length out.old.numbers.items }
+    requires first { length first.now + 2 + out.old.flags + out.old.entries
+        ≡ length out.old.numbers.items }
     requires second { length second.now ≡ length first.now }
     ensures beside { IsRoomBeside out.old out.new }
-    ensures others { (k : ℕ) → k < 2 + out.old.flags + out.old.entries → get_or out.new.numbers.items k 0 ≡ get_or out.old.numbers.items k 0 }
-    ensures looks { (i : ℕ) → i < length first.now → get_or out.new.numbers.items (2 + out.old.flags + out.old.entries + i) 0 ≡ or_hit (get_or first.now i 0) (get_or second.now i 0) }
+    ensures others { (k : ℕ) → k < 2 + out.old.flags + out.old.entries
+        → get_or out.new.numbers.items k 0 ≡ get_or out.old.numbers.items k 0 }
+    ensures looks { (i : ℕ) → i < length first.now
+        → get_or out.new.numbers.items (2 + out.old.flags + out.old.entries + i) 0
+        ≡ or_hit (get_or first.now i 0) (get_or second.now i 0) }
 {
     for place in 0..first.len() {
         let value = first[place];
@@ -110,9 +119,15 @@ pub(crate) fn put_kind(auto: &Auto<'_>, hedge: &Room, tree: &Room, out: &mut Roo
     requires flags { out.old.flags ≡ states_of auto.now }
     requires patterns { tree.now.flags ≡ patterns_of auto.now }
     ensures beside { IsRoomBeside out.old out.new }
-    ensures others { (k : ℕ) → (k < 2) ⊎ (2 + out.old.flags ≤ k) → get_or out.new.numbers.items k 0 ≡ get_or out.old.numbers.items k 0 }
-    ensures live { IsTrue result ↔ (¬ AreTexts hedge.now tree.now × Contains (flags_in out.new.flags out.new.numbers.items) 1) }
-    ensures flags { ¬ AreTexts hedge.now tree.now → Puts auto.now (flags_in hedge.now.flags hedge.now.numbers.items) (get_or tree.now.numbers.items 0 0 == 1) (flags_in tree.now.flags tree.now.numbers.items) out.new.numbers.items }
+    ensures others { (k : ℕ) → (k < 2) ⊎ (2 + out.old.flags ≤ k) → get_or out.new.numbers.items k 0
+        ≡ get_or out.old.numbers.items k 0 }
+    ensures live { IsTrue result
+        ↔ (¬ AreTexts hedge.now tree.now
+        × Contains (flags_in out.new.flags out.new.numbers.items) 1) }
+    ensures flags { ¬ AreTexts hedge.now tree.now
+        → Puts auto.now (flags_in hedge.now.flags hedge.now.numbers.items)
+        (get_or tree.now.numbers.items 0 0 == 1)
+        (flags_in tree.now.flags tree.now.numbers.items) out.new.numbers.items }
 {
     if hedge.is_text() && tree.is_text() {
         return false;
@@ -133,21 +148,37 @@ pub(crate) fn put_append(
     requires set { set.old.size ≡ outputs.old.size }
     requires hedge { hedge.now.entries ≡ out.old.entries }
     requires tree { tree.now.entries ≡ out.old.entries }
-    requires first { (i : ℕ) → i < out.old.entries → output_at hedge.now.flags hedge.now.numbers.items i < length outputs.old.matrices }
-    requires second { (i : ℕ) → i < out.old.entries → output_at tree.now.flags tree.now.numbers.items i < length outputs.old.matrices }
-    requires looks { length hedge.now.numbers.items + out.old.flags ≡ length out.old.numbers.items + hedge.now.flags }
-    requires tree_looks { length tree.now.numbers.items + hedge.now.flags ≡ length hedge.now.numbers.items + tree.now.flags }
+    requires first { (i : ℕ) → i < out.old.entries
+        → output_at hedge.now.flags hedge.now.numbers.items i < length outputs.old.matrices }
+    requires second { (i : ℕ) → i < out.old.entries
+        → output_at tree.now.flags tree.now.numbers.items i < length outputs.old.matrices }
+    requires looks { length hedge.now.numbers.items + out.old.flags
+        ≡ length out.old.numbers.items + hedge.now.flags }
+    requires tree_looks { length tree.now.numbers.items + hedge.now.flags
+        ≡ length hedge.now.numbers.items + tree.now.flags }
     ensures set { set.new.size ≡ set.old.size }
     ensures beside { IsRoomBeside out.old out.new }
-    ensures flags { (k : ℕ) → 2 ≤ k → k < 2 + out.old.flags → get_or out.new.numbers.items k 0 ≡ get_or out.old.numbers.items k 0 }
-    ensures numbers { OnOk result (IsBehind outputs.old outputs.new hedge.now.flags tree.now.flags out.old.flags out.old.entries hedge.now.numbers.items tree.now.numbers.items out.new.numbers.items) }
+    ensures flags { (k : ℕ) → 2 ≤ k → k < 2 + out.old.flags → get_or out.new.numbers.items k 0
+        ≡ get_or out.old.numbers.items k 0 }
+    ensures numbers { OnOk result
+        (IsBehind outputs.old outputs.new hedge.now.flags tree.now.flags out.old.flags
+        out.old.entries hedge.now.numbers.items tree.now.numbers.items out.new.numbers.items) }
     ensures held { Extends outputs.old outputs.new }
     ensures matrices { AreMatrices outputs.new }
-    ensures grows { OnOk result (Grows outputs.old outputs.new (output_at out.old.flags out.new.numbers.items) out.old.entries) }
-    ensures partly { OnErr result (AreProducts outputs.old outputs.new (output_at hedge.now.flags hedge.now.numbers.items) (output_at tree.now.flags tree.now.numbers.items) out.old.entries) }
-    ensures err { OnErr result ((i : ℕ) × (i < out.old.entries) × IsNew outputs.new (set_at outputs.old (output_at hedge.now.flags hedge.now.numbers.items i)) (set_at outputs.old (output_at tree.now.flags tree.now.numbers.items i))) }
+    ensures grows { OnOk result
+        (Grows outputs.old outputs.new
+        (output_at out.old.flags out.new.numbers.items) out.old.entries) }
+    ensures partly { OnErr result
+        (AreProducts outputs.old outputs.new (output_at hedge.now.flags hedge.now.numbers.items)
+        (output_at tree.now.flags tree.now.numbers.items) out.old.entries) }
+    ensures err { OnErr result
+        ((i : ℕ) × (i < out.old.entries)
+        × IsNew outputs.new
+        (set_at outputs.old (output_at hedge.now.flags hedge.now.numbers.items i))
+        (set_at outputs.old (output_at tree.now.flags tree.now.numbers.items i))) }
     ensures fixed { is_fixed ≡ true → outputs.new ≡ outputs.old }
-    ensures full { IsErrOf result RowFault.TooManyOutputs → (is_fixed ≡ false) × (length outputs.new.matrices ≡ 65536) }
+    ensures full { IsErrOf result RowFault.TooManyOutputs → (is_fixed ≡ false)
+        × (length outputs.new.matrices ≡ 65536) }
     ensures fresh { IsErrOf result RowFault.NewOutput → is_fixed ≡ true }
     ensures memory { IsErrOf result RowFault.NoMemory → is_fixed ≡ false }
 {

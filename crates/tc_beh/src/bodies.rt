@@ -113,8 +113,11 @@ fn put_instruction(place: &Place<'_, '_>, instruction: &Instr<'_>, sets: &mut Op
         (depth_in (see.instruction instruction.now s.no_instruction)) sets.old }
     ensures same { IsBeside place.now.output.now place.now.outputs.now sets.old sets.new }
     ensures pairs { (x : Triple) (rest : s.Body) → IsPlaceIn x place.now → HaveSamePairs
-        (product (has sets.new.out) (put_pairs x (kind_of place.now.node) (below_of x place.now) (called_by place.now) rest))
-        (product (has sets.old.out) (put_pairs x (kind_of place.now.node) (below_of x place.now) (called_by place.now) (see.instruction instruction.now rest))) }
+        (product (has sets.new.out)
+        (put_pairs x (kind_of place.now.node) (below_of x place.now) (called_by place.now) rest))
+        (product (has sets.old.out)
+        (put_pairs x (kind_of place.now.node) (below_of x place.now) (called_by place.now)
+        (see.instruction instruction.now rest))) }
 {
     match instruction {
         Instr::Text(text) => put_text_if(place, !is_white_space_only(text), sets),
@@ -191,8 +194,13 @@ fn put_first(place: &Place<'_, '_>, branches: &[Branch<'_>], sets: &mut OpenSets
     ensures same { IsBeside place.now.output.now place.now.outputs.now sets.old sets.new }
     ensures stays { result ≡ false → sets.new ≡ sets.old }
     ensures pairs { (x : Triple) (rest : s.Branches) → IsPlaceIn x place.now → HaveSamePairs
-        (product (has sets.new.out) (chosen result (stay x) (put_branch_pairs x (kind_of place.now.node) (below_of x place.now) (called_by place.now) rest)))
-        (product (has sets.old.out) (put_branch_pairs x (kind_of place.now.node) (below_of x place.now) (called_by place.now) (see.branches branches.now rest))) }
+        (product (has sets.new.out)
+        (chosen result (stay x)
+        (put_branch_pairs x (kind_of place.now.node) (below_of x place.now)
+        (called_by place.now) rest)))
+        (product (has sets.old.out)
+        (put_branch_pairs x (kind_of place.now.node) (below_of x place.now) (called_by place.now)
+        (see.branches branches.now rest))) }
 {
     for branch in branches {
         if holds(place.rules, place.looks, &branch.test) {
@@ -264,7 +272,10 @@ pub(crate) fn put_entry(place: &Place<'_, '_>, state: u32, sets: &mut OpenSets)
     requires sets { IsOpenAt place.now 0 sets.old }
     ensures same { IsBeside place.now.output.now place.now.outputs.now sets.old sets.new }
     ensures pairs { (x : Triple) → IsPlaceIn x place.now
-        → Extends sets.old.out sets.new.out (listed (entry x (entries_by place.now.outputs.now.matrices place.now.entries.now) place.now.above state)) }
+        → Extends sets.old.out sets.new.out
+        (listed
+        (entry x
+        (entries_by place.now.outputs.now.matrices place.now.entries.now) place.now.above state)) }
 {
     let number = entry_place(place.above, place.rules.moves(), state);
     sets.put_held(place.outputs, place.entries[number]);

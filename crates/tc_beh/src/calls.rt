@@ -45,7 +45,8 @@ fn put_callees_of_branches(
     found: &mut Vec<usize, &Bump>,
     branches: &[Branch<'_>],
 ) -> Result<(), NoMemory>
-    ensures { OnOk result ((rest : s.Branches) → found.new.items ++ callees_in_branches rest ≡ found.old.items ++ callees_in_branches (see.branches branches.now rest)) }
+    ensures { OnOk result ((rest : s.Branches) → found.new.items ++ callees_in_branches rest
+        ≡ found.old.items ++ callees_in_branches (see.branches branches.now rest)) }
 {
     for branch in branches {
         put_callees(found, branch.body)?;
@@ -59,7 +60,8 @@ fn put_callees_of_one(
     found: &mut Vec<usize, &Bump>,
     instruction: &Instr<'_>,
 ) -> Result<(), NoMemory>
-    ensures { OnOk result ((rest : s.Body) → found.new.items ++ callees_in rest ≡ found.old.items ++ callees_in (see.instruction instruction.now rest)) }
+    ensures { OnOk result ((rest : s.Body) → found.new.items ++ callees_in rest ≡ found.old.items
+        ++ callees_in (see.instruction instruction.now rest)) }
 {
     match instruction {
         Instr::Call(number) => put_callee(found, *number),
@@ -76,9 +78,12 @@ fn put_callees_of_one(
 
 /// The numbers of the named bodies, each after those that it calls.
 pub(crate) fn callees_first(alloc: Global, named: &[&[Instr<'_>]]) -> Result<Vec<usize>, NoMemory>
-    requires { All (λ (b : Bor (List Instr)). All (λ n. n < length named.now) (callees_in (see.body b.now))) named.now }
+    requires { All
+        (λ (b : Bor (List Instr)). All (λ n. n < length named.now)
+        (callees_in (see.body b.now))) named.now }
     ensures low { IfOk result (λ v. All (λ n. n < length named.now) v.items) }
-    ensures order { IfOk result (λ v. AreComponentsInOrder (map (λ b. callees_in (see.body b.now)) named.now) v.items) }
+    ensures order { IfOk result
+        (λ v. AreComponentsInOrder (map (λ b. callees_in (see.body b.now)) named.now) v.items) }
 {
     let arena = Bump::new(alloc);
     let rows = rows_of_calls(&arena, named)?;
@@ -133,7 +138,8 @@ pub(crate) fn height(heights: &[u32], body: &[Instr<'_>]) -> u32
 
 #[cycle(heights)]
 fn height_of_branches(heights: &[u32], branches: &[Branch<'_>]) -> u32
-    ensures { (rest : s.Branches) → height_in_branches heights.now (see.branches branches.now rest) ≡ max result (height_in_branches heights.now rest) }
+    ensures { (rest : s.Branches) → height_in_branches heights.now (see.branches branches.now rest)
+        ≡ max result (height_in_branches heights.now rest) }
 {
     let mut most = 0;
     for branch in branches {
@@ -145,7 +151,8 @@ fn height_of_branches(heights: &[u32], branches: &[Branch<'_>]) -> u32
 #[cycle(heights)]
 #[tactic(auto, using(tc_model::proofs::ViewsBody::see_instruction))]
 fn height_of_one(heights: &[u32], instruction: &Instr<'_>) -> u32
-    ensures { (rest : s.Body) → height_in heights.now (see.instruction instruction.now rest) ≡ max result (height_in heights.now rest) }
+    ensures { (rest : s.Body) → height_in heights.now (see.instruction instruction.now rest)
+        ≡ max result (height_in heights.now rest) }
 {
     match instruction {
         Instr::Call(number) => one_more(number_at(heights, *number)),
@@ -168,7 +175,10 @@ pub(crate) fn heights_of(
 ) -> Result<Vec<u32>, NoMemory>
     requires { All (λ n. n < length named.now) order.now }
     ensures count { IfOk result (λ v. length v.items ≡ length named.now) }
-    ensures heights { IfOk result (λ v. v.items ≡ heights_in (map (λ b. see.body b.now) named.now) (replicate (length named.now) 0) order.now) }
+    ensures heights { IfOk result
+        (λ v. v.items
+        ≡ heights_in (map (λ b. see.body b.now) named.now)
+        (replicate (length named.now) 0) order.now) }
 {
     let mut heights = vec![in alloc; 0u32; named.len()]?;
     for number in order {
@@ -180,7 +190,8 @@ pub(crate) fn heights_of(
 
 /// The greatest of these, and of those of the bodies of rules.
 fn highest(heights: &[u32], rules: &[Rule<'_>]) -> u32
-    ensures { result ≡ max (highest_of heights.now) (highest_rule heights.now (map see.rule rules.now)) }
+    ensures { result
+        ≡ max (highest_of heights.now) (highest_rule heights.now (map see.rule rules.now)) }
 {
     let mut most = 0;
     for here in heights {
@@ -195,7 +206,10 @@ fn highest(heights: &[u32], rules: &[Rule<'_>]) -> u32
 /// How many instructions of a stylesheet stand within one another, or one more than may.
 pub(crate) fn calls_of(alloc: Global, sheet: &Sheet<'_>, order: &[usize]) -> Result<u32, NoMemory>
     requires { All (λ n. n < length sheet.now.named.now) order.now }
-    ensures { IfOk result (λ n. let heights = heights_in (see.sheet sheet.now).named (replicate (length sheet.now.named.now) 0) order.now in n ≡ max (highest_of heights) (highest_rule heights (see.sheet sheet.now).rules)) }
+    ensures { IfOk result
+        (λ n. let heights = heights_in (see.sheet sheet.now).named
+        (replicate (length sheet.now.named.now) 0) order.now in n
+        ≡ max (highest_of heights) (highest_rule heights (see.sheet sheet.now).rules)) }
 {
     let heights = heights_of(alloc, sheet.named, order)?;
     Ok(highest(&heights, sheet.rules))
@@ -215,7 +229,8 @@ fn depth(body: &[Instr<'_>]) -> u32
 
 #[cycle(depths)]
 fn depth_of_branches(branches: &[Branch<'_>]) -> u32
-    ensures { (rest : s.Branches) → depth_in_branches (see.branches branches.now rest) ≡ max result (depth_in_branches rest) }
+    ensures { (rest : s.Branches) → depth_in_branches (see.branches branches.now rest)
+        ≡ max result (depth_in_branches rest) }
 {
     let mut most = 0;
     for branch in branches {
@@ -227,7 +242,8 @@ fn depth_of_branches(branches: &[Branch<'_>]) -> u32
 #[cycle(depths)]
 #[tactic(auto, using(tc_model::proofs::ViewsBody::see_instruction))]
 fn depth_of_one(instruction: &Instr<'_>) -> u32
-    ensures { (rest : s.Body) → depth_in (see.instruction instruction.now rest) ≡ max result (depth_in rest) }
+    ensures { (rest : s.Body) → depth_in (see.instruction instruction.now rest)
+        ≡ max result (depth_in rest) }
 {
     match instruction {
         Instr::Elem(_, inner) => one_more(depth(inner)),
@@ -247,7 +263,8 @@ fn depth_of_one(instruction: &Instr<'_>) -> u32
 
 /// How many elements stand open at most in the text of a body of a stylesheet.
 pub(crate) fn depth_of_sheet(sheet: &Sheet<'_>) -> u32
-    ensures { result ≡ max (deepest_rule (see.sheet sheet.now).rules) (deepest (see.sheet sheet.now).named) }
+    ensures { result
+        ≡ max (deepest_rule (see.sheet sheet.now).rules) (deepest (see.sheet sheet.now).named) }
 {
     let mut most = 0;
     for rule in sheet.rules {

@@ -20,7 +20,8 @@ use tc_mat::Mat;
 fn put_first_states(auto: &Auto<'_>, out: &mut Room)
     requires flags { out.old.flags ≡ states_of auto.now }
     ensures beside { IsRoomBeside out.old out.new }
-    ensures others { (k : ℕ) → (k < 2) ⊎ (2 + out.old.flags ≤ k) → get_or out.new.numbers.items k 0 ≡ get_or out.old.numbers.items k 0 }
+    ensures others { (k : ℕ) → (k < 2) ⊎ (2 + out.old.flags ≤ k) → get_or out.new.numbers.items k 0
+        ≡ get_or out.old.numbers.items k 0 }
     ensures flags { PutsFirst auto.now (patterns_of auto.now) out.new.numbers.items }
 {
     out.clear_flags();
@@ -32,8 +33,10 @@ fn put_first_states(auto: &Auto<'_>, out: &mut Room)
 /// Leaves no hit for each look.
 fn put_no_looks(out: &mut Room)
     ensures beside { IsRoomBeside out.old out.new }
-    ensures others { (k : ℕ) → k < 2 + out.old.flags + out.old.entries → get_or out.new.numbers.items k 0 ≡ get_or out.old.numbers.items k 0 }
-    ensures looks { (k : ℕ) → 2 + out.old.flags + out.old.entries ≤ k → get_or out.new.numbers.items k 0 ≡ 0 }
+    ensures others { (k : ℕ) → k < 2 + out.old.flags + out.old.entries
+        → get_or out.new.numbers.items k 0 ≡ get_or out.old.numbers.items k 0 }
+    ensures looks { (k : ℕ) → 2 + out.old.flags + out.old.entries ≤ k
+        → get_or out.new.numbers.items k 0 ≡ 0 }
 {
     for place in 0..out.looks().len() {
         out.set_look(place, 0);
@@ -43,8 +46,10 @@ fn put_no_looks(out: &mut Room)
 /// Leaves one number for each output.
 fn put_one_output(output: u32, out: &mut Room)
     ensures beside { IsRoomBeside out.old out.new }
-    ensures others { (k : ℕ) → (k < 2 + out.old.flags) ⊎ (2 + out.old.flags + out.old.entries ≤ k) → get_or out.new.numbers.items k 0 ≡ get_or out.old.numbers.items k 0 }
-    ensures outputs { (i : ℕ) → i < out.old.entries → output_at out.old.flags out.new.numbers.items i ≡ output }
+    ensures others { (k : ℕ) → (k < 2 + out.old.flags) ⊎ (2 + out.old.flags + out.old.entries ≤ k)
+        → get_or out.new.numbers.items k 0 ≡ get_or out.old.numbers.items k 0 }
+    ensures outputs { (i : ℕ) → i < out.old.entries
+        → output_at out.old.flags out.new.numbers.items i ≡ output }
 {
     for place in 0..out.entries {
         out.set_output(place, output);
@@ -61,13 +66,19 @@ fn put_identities(
     requires set { set.old.size ≡ outputs.old.size }
     ensures set { set.new.size ≡ set.old.size }
     ensures beside { IsRoomBeside out.old out.new }
-    ensures others { (k : ℕ) → (k < 2 + out.old.flags) ⊎ (2 + out.old.flags + out.old.entries ≤ k) → get_or out.new.numbers.items k 0 ≡ get_or out.old.numbers.items k 0 }
-    ensures outs { OnOk result ((i : ℕ) → i < out.old.entries → IsIdentity (set_at outputs.new (output_at out.old.flags out.new.numbers.items i))) }
+    ensures others { (k : ℕ) → (k < 2 + out.old.flags) ⊎ (2 + out.old.flags + out.old.entries ≤ k)
+        → get_or out.new.numbers.items k 0 ≡ get_or out.old.numbers.items k 0 }
+    ensures outs { OnOk result ((i : ℕ) → i < out.old.entries
+        → IsIdentity (set_at outputs.new (output_at out.old.flags out.new.numbers.items i))) }
     ensures held { Extends outputs.old outputs.new }
-    ensures grows { OnOk result (Grows outputs.old outputs.new (output_at out.old.flags out.new.numbers.items) out.old.entries) }
-    ensures err { OnErr result ((outputs.new ≡ outputs.old) × (0 < out.old.entries) × IsNewIdentity outputs.new) }
+    ensures grows { OnOk result
+        (Grows outputs.old outputs.new
+        (output_at out.old.flags out.new.numbers.items) out.old.entries) }
+    ensures err { OnErr result
+        ((outputs.new ≡ outputs.old) × (0 < out.old.entries) × IsNewIdentity outputs.new) }
     ensures fixed { is_fixed ≡ true → outputs.new ≡ outputs.old }
-    ensures full { IsErrOf result RowFault.TooManyOutputs → (is_fixed ≡ false) × (length outputs.new.matrices ≡ 65536) }
+    ensures full { IsErrOf result RowFault.TooManyOutputs → (is_fixed ≡ false)
+        × (length outputs.new.matrices ≡ 65536) }
     ensures fresh { IsErrOf result RowFault.NewOutput → is_fixed ≡ true }
     ensures memory { IsErrOf result RowFault.NoMemory → is_fixed ≡ false }
 {
@@ -92,13 +103,18 @@ pub(crate) fn put_empty(
     requires flags { out.old.flags ≡ states_of auto.now }
     ensures set { set.new.size ≡ set.old.size }
     ensures beside { IsRoomBeside out.old out.new }
-    ensures numbers { OnOk result (IsOfNoTree outputs.new auto.now out.old.flags out.old.entries out.new.numbers.items) }
+    ensures numbers { OnOk result
+        (IsOfNoTree outputs.new auto.now out.old.flags out.old.entries out.new.numbers.items) }
     ensures held { Extends outputs.old outputs.new }
     ensures matrices { AreMatrices outputs.new }
-    ensures grows { OnOk result (Grows outputs.old outputs.new (output_at out.old.flags out.new.numbers.items) out.old.entries) }
-    ensures err { OnErr result ((outputs.new ≡ outputs.old) × (0 < out.old.entries) × IsNewIdentity outputs.new) }
+    ensures grows { OnOk result
+        (Grows outputs.old outputs.new
+        (output_at out.old.flags out.new.numbers.items) out.old.entries) }
+    ensures err { OnErr result
+        ((outputs.new ≡ outputs.old) × (0 < out.old.entries) × IsNewIdentity outputs.new) }
     ensures fixed { is_fixed ≡ true → outputs.new ≡ outputs.old }
-    ensures full { IsErrOf result RowFault.TooManyOutputs → (is_fixed ≡ false) × (length outputs.new.matrices ≡ 65536) }
+    ensures full { IsErrOf result RowFault.TooManyOutputs → (is_fixed ≡ false)
+        × (length outputs.new.matrices ≡ 65536) }
     ensures fresh { IsErrOf result RowFault.NewOutput → is_fixed ≡ true }
     ensures memory { IsErrOf result RowFault.NoMemory → is_fixed ≡ false }
 {

@@ -260,8 +260,11 @@ fn put_entry_of(
         → IsWork x machine.now outputs.now work.new }
     ensures named { work.new.named.items ≡ work.old.named.items }
     ensures matrix { IsMatrix work.new.sets.out }
-    ensures entry { (x : Triple) → AreGrounds x machine.now outputs.now work.old node.entry → IsUnder x (letter_of node.entry.letter) spot.ancestor spot.above → AreCalledOn x outputs.now node.entry spot.above work.old.named.items
-        → IsEntryAt x (entries_by outputs.now.matrices node.entry.entries.now) node.entry (spot.ancestor * moves_of x + spot.state) work.new.sets.out }
+    ensures entry { (x : Triple) → AreGrounds x machine.now outputs.now work.old node.entry
+        → IsUnder x (letter_of node.entry.letter) spot.ancestor spot.above
+        → AreCalledOn x outputs.now node.entry spot.above work.old.named.items
+        → IsEntryAt x (entries_by outputs.now.matrices node.entry.entries.now) node.entry
+        (spot.ancestor * moves_of x + spot.state) work.new.sets.out }
 {
     let rules = &machine.rules;
     let template = template_at(
@@ -286,9 +289,12 @@ fn passed_on(machine: &Machine<'_>, outputs: &HeldSets, node: Node<'_>, spot: Sp
     requires state { spot.state < move_count (told machine.now.rules) }
     requires above { spot.above < length (told machine.now.rules).ancestors.states }
     ensures low { IfSome result (λ k. k < length outputs.now.matrices) }
-    ensures entry { IfSome result (λ k. (x : Triple) → IsRulesIn x machine.now.rules → outputs.now.size ≡ outputs_of x → IsNode x outputs.now node.entry
+    ensures entry { IfSome result
+        (λ k. (x : Triple) → IsRulesIn x machine.now.rules → outputs.now.size ≡ outputs_of x
+        → IsNode x outputs.now node.entry
         → IsUnder x (letter_of node.entry.letter) spot.ancestor spot.above
-        → IsEntryAt x (entries_by outputs.now.matrices node.entry.entries.now) node.entry (spot.ancestor * moves_of x + spot.state) (set_at outputs.now k)) }
+        → IsEntryAt x (entries_by outputs.now.matrices node.entry.entries.now) node.entry
+        (spot.ancestor * moves_of x + spot.state) (set_at outputs.now k)) }
 {
     let rules = &machine.rules;
     let Kind::Elem(_) = node.letter.kind else {
@@ -313,8 +319,11 @@ fn puts_nothing(machine: &Machine<'_>, node: Node<'_>, spot: Spot) -> bool
         × IsLetter x.symbols (predicates x) (letter_of node.letter) }
     requires leads { AreLeads machine.now.rules node.letter node.leads.now }
     requires state { spot.state < move_count (told machine.now.rules) }
-    ensures { result ≡ true → (x : Triple) (es : List (List (ℕ × ℕ))) (m : Matrix) → IsRulesIn x machine.now.rules → IsLetter x.symbols (predicates x) (letter_of node.entry.letter)
-        → IsIdentity m → m.size ≡ outputs_of x → IsEntryAt x es node.entry (spot.ancestor * moves_of x + spot.state) m }
+    ensures { result ≡ true → (x : Triple) (es : List (List (ℕ × ℕ))) (m : Matrix)
+        → IsRulesIn x machine.now.rules
+        → IsLetter x.symbols (predicates x) (letter_of node.entry.letter)
+        → IsIdentity m → m.size ≡ outputs_of x
+        → IsEntryAt x es node.entry (spot.ancestor * moves_of x + spot.state) m }
 {
     let letter = node.letter;
     let lead = lead_at(&machine.rules, letter, node.leads, spot.state);
@@ -427,14 +436,19 @@ fn keep_entry(
         → IsUnder x (letter_of node.entry.letter) spot.ancestor spot.above
         → (is_ready.old ≡ true
         → AreCalledOn x outputs.old node.entry spot.above work.old.named.items)
-        → IsBefore x (entries_by outputs.old.matrices node.entry.entries.now) node.entry outputs.old spot.above spot.state (output_at out.now.flags out.now.numbers.items) spot.before
-        → IsEntryAt x (entries_by outputs.old.matrices node.entry.entries.now) node.entry (spot.ancestor * moves_of x + spot.state) (set_at outputs.new k)) }
+        → IsBefore x
+        (entries_by outputs.old.matrices node.entry.entries.now) node.entry outputs.old spot.above
+        spot.state (output_at out.now.flags out.now.numbers.items) spot.before
+        → IsEntryAt x (entries_by outputs.old.matrices node.entry.entries.now) node.entry
+        (spot.ancestor * moves_of x + spot.state) (set_at outputs.new k)) }
     ensures err { OnErr result ((outputs.new ≡ outputs.old) × ((x : Triple)
         → AreGrounds x machine.now outputs.old work.old node.entry
         → IsUnder x (letter_of node.entry.letter) spot.ancestor spot.above
         → (is_ready.old ≡ true
         → AreCalledOn x outputs.old node.entry spot.above work.old.named.items)
-        → IsNewEntry x (entries_by outputs.old.matrices node.entry.entries.now) node.entry outputs.old (spot.ancestor * moves_of x + spot.state))) }
+        → IsNewEntry x
+        (entries_by outputs.old.matrices node.entry.entries.now) node.entry outputs.old
+        (spot.ancestor * moves_of x + spot.state))) }
     ensures fixed { is_fixed ≡ true → outputs.new ≡ outputs.old }
     ensures full { IsErrOf result RowFault.TooManyOutputs → (is_fixed ≡ false)
         × (length outputs.old.matrices ≡ 65536) }
@@ -470,7 +484,8 @@ fn put_row(
     requires grounds { AreSomeGrounds machine.now outputs.old work.old node }
     requires ancestor { ancestor < length (told machine.now.rules).ancestors.states }
     requires room { (ancestor + 1) * move_count (told machine.now.rules) ≤ out.old.entries }
-    requires before { (x : Triple) × (begun : Held) × AreGrounds x machine.now outputs.old work.old node
+    requires before { (x : Triple) × (begun : Held)
+        × AreGrounds x machine.now outputs.old work.old node
         × Comes x (entries_by outputs.old.matrices node.entries.now) node begun outputs.old
         (output_at out.old.flags out.old.numbers.items) (ancestor * moves_of x) }
     ensures work { (x : Triple) → AreGrounds x machine.now outputs.old work.old node.entry
@@ -479,11 +494,20 @@ fn put_row(
     ensures others { (k : ℕ) → (k < 2 + out.old.flags) ⊎ (2 + out.old.flags + out.old.entries ≤ k)
         → get_or out.new.numbers.items k 0 ≡ get_or out.old.numbers.items k 0 }
     ensures held { Extends outputs.old outputs.new }
-    ensures comes { OnOk result ((x : Triple) (es : List (List (ℕ × ℕ))) (begun : Held) → AreGrounds x machine.now outputs.old work.old node.entry → es ≡ entries_by outputs.old.matrices node.entry.entries.now
-        → Comes x es node.entry begun outputs.old (output_at out.old.flags out.old.numbers.items) (ancestor * moves_of x)
-        → Comes x es node.entry begun outputs.new (output_at out.old.flags out.new.numbers.items) (ancestor * moves_of x + moves_of x)) }
-    ensures partly { OnErr result ((x : Triple) (es : List (List (ℕ × ℕ))) (begun : Held) → AreGrounds x machine.now outputs.old work.old node.entry → es ≡ entries_by outputs.old.matrices node.entry.entries.now
-        → Comes x es node.entry begun outputs.old (output_at out.old.flags out.old.numbers.items) (ancestor * moves_of x)
+    ensures comes { OnOk result
+        ((x : Triple) (es : List (List (ℕ × ℕ))) (begun : Held)
+        → AreGrounds x machine.now outputs.old work.old node.entry → es
+        ≡ entries_by outputs.old.matrices node.entry.entries.now
+        → Comes x es node.entry begun outputs.old (output_at out.old.flags out.old.numbers.items)
+        (ancestor * moves_of x)
+        → Comes x es node.entry begun outputs.new (output_at out.old.flags out.new.numbers.items)
+        (ancestor * moves_of x + moves_of x)) }
+    ensures partly { OnErr result
+        ((x : Triple) (es : List (List (ℕ × ℕ))) (begun : Held)
+        → AreGrounds x machine.now outputs.old work.old node.entry → es
+        ≡ entries_by outputs.old.matrices node.entry.entries.now
+        → Comes x es node.entry begun outputs.old (output_at out.old.flags out.old.numbers.items)
+        (ancestor * moves_of x)
         → ComesPartly x es node.entry begun outputs.new) }
     ensures fixed { is_fixed ≡ true → outputs.new ≡ outputs.old }
     ensures full { IsErrOf result RowFault.TooManyOutputs → (is_fixed ≡ false)
@@ -535,10 +559,16 @@ pub(crate) fn put_entries(
     ensures others { (k : ℕ) → (k < 2 + out.old.flags) ⊎ (2 + out.old.flags + out.old.entries ≤ k)
         → get_or out.new.numbers.items k 0 ≡ get_or out.old.numbers.items k 0 }
     ensures held { Extends outputs.old outputs.new }
-    ensures comes { OnOk result ((x : Triple) → AreGrounds x machine.now outputs.old work.old node.entry
-        → Comes x (entries_by outputs.old.matrices node.entry.entries.now) node.entry outputs.old outputs.new (output_at out.old.flags out.new.numbers.items) out.old.entries) }
-    ensures partly { OnErr result ((x : Triple) → AreGrounds x machine.now outputs.old work.old node.entry
-        → ComesPartly x (entries_by outputs.old.matrices node.entry.entries.now) node.entry outputs.old outputs.new) }
+    ensures comes { OnOk result
+        ((x : Triple) → AreGrounds x machine.now outputs.old work.old node.entry
+        → Comes x
+        (entries_by outputs.old.matrices node.entry.entries.now) node.entry outputs.old outputs.new
+        (output_at out.old.flags out.new.numbers.items) out.old.entries) }
+    ensures partly { OnErr result
+        ((x : Triple) → AreGrounds x machine.now outputs.old work.old node.entry
+        → ComesPartly x
+        (entries_by outputs.old.matrices node.entry.entries.now) node.entry outputs.old
+        outputs.new) }
     ensures fixed { is_fixed ≡ true → outputs.new ≡ outputs.old }
     ensures full { IsErrOf result RowFault.TooManyOutputs → (is_fixed ≡ false)
         × (length outputs.new.matrices ≡ 65536) }

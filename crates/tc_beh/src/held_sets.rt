@@ -96,7 +96,8 @@ impl HeldSets {
         requires size { set.now.size ≡ self.old.size }
         requires absent { ¬ IsHeld self.old set.now }
         ensures id { IfOk result (λ id. slice_get self.new.matrices id.0 ≡ Some set.now) }
-        ensures grows { IfOk result (λ id. (id.0 ≡ length self.old.matrices) × (self.new ≡ record self.old { matrices = self.old.matrices ++ set.now ∷ [] })) }
+        ensures grows { IfOk result (λ id. (id.0 ≡ length self.old.matrices)
+            × (self.new ≡ record self.old { matrices = self.old.matrices ++ set.now ∷ [] })) }
         ensures err { OnErr result (self.new ≡ self.old) }
         ensures full { IsErrOf result PoolFault.PoolFull → length self.old.matrices ≡ 65536 }
     {

@@ -28,7 +28,8 @@ pub(crate) const NOWHERE: Lead = Lead {
 
 /// Where a state goes on a node of a letter.
 fn lead_of(rules: &Rules<'_>, letter: Letter, state: u32) -> Lead
-    requires letter { (x : Triple) × IsRulesIn x rules.now × IsLetter x.symbols (predicates x) (letter_of letter) }
+    requires letter { (x : Triple) × IsRulesIn x rules.now
+        × IsLetter x.symbols (predicates x) (letter_of letter) }
     requires state { state < move_count (told rules.now) }
     ensures { IsLead rules.now letter state result }
 {
@@ -42,7 +43,8 @@ fn lead_of(rules: &Rules<'_>, letter: Letter, state: u32) -> Lead
 
 /// Leaves where each state goes on a node of a letter, by its number.
 pub(crate) fn put_leads(rules: &Rules<'_>, letter: Letter, leads: &mut [Lead])
-    requires { (x : Triple) × IsRulesIn x rules.now × IsLetter x.symbols (predicates x) (letter_of letter) }
+    requires { (x : Triple) × IsRulesIn x rules.now
+        × IsLetter x.symbols (predicates x) (letter_of letter) }
     ensures { AreLeads rules.now letter leads.new }
 {
     for state in 0..rules.moves() {
@@ -54,7 +56,8 @@ pub(crate) fn put_leads(rules: &Rules<'_>, letter: Letter, leads: &mut [Lead])
 
 /// Where a state goes on a node of a letter, by what was left of it.
 pub(crate) fn lead_at(rules: &Rules<'_>, letter: Letter, leads: &[Lead], state: u32) -> Lead
-    requires letter { (x : Triple) × IsRulesIn x rules.now × IsLetter x.symbols (predicates x) (letter_of letter) }
+    requires letter { (x : Triple) × IsRulesIn x rules.now
+        × IsLetter x.symbols (predicates x) (letter_of letter) }
     requires leads { AreLeads rules.now letter leads.now }
     requires state { state < move_count (told rules.now) }
     ensures { IsLead rules.now letter state result }

@@ -49,7 +49,8 @@ fn places_of(alloc: Global, first: u32, flags: &[u32]) -> Result<Numbers, NoMemo
 fn put_places(places: &Numbers, first: u32, out: &mut Room)
     requires { All (λ k. (first ≤ k) × (k < first + out.old.flags)) places.now }
     ensures beside { IsRoomBeside out.old out.new }
-    ensures others { (k : ℕ) → (k < 2) ⊎ (2 + out.old.flags ≤ k) → get_or out.new.numbers.items k 0 ≡ get_or out.old.numbers.items k 0 }
+    ensures others { (k : ℕ) → (k < 2) ⊎ (2 + out.old.flags ≤ k) → get_or out.new.numbers.items k 0
+        ≡ get_or out.old.numbers.items k 0 }
     ensures flags { PutsPlaces places.now first out.old.flags out.new.numbers.items }
 {
     out.clear_flags();
@@ -63,8 +64,10 @@ fn put_places(places: &Numbers, first: u32, out: &mut Room)
 fn put_outputs(outputs: &Numbers, out: &mut Room)
     requires { length outputs.now ≡ out.old.entries }
     ensures beside { IsRoomBeside out.old out.new }
-    ensures others { (k : ℕ) → (k < 2 + out.old.flags) ⊎ (2 + out.old.flags + out.old.entries ≤ k) → get_or out.new.numbers.items k 0 ≡ get_or out.old.numbers.items k 0 }
-    ensures outputs { (i : ℕ) → i < out.old.entries → output_at out.old.flags out.new.numbers.items i ≡ get_or outputs.now i 0 }
+    ensures others { (k : ℕ) → (k < 2 + out.old.flags) ⊎ (2 + out.old.flags + out.old.entries ≤ k)
+        → get_or out.new.numbers.items k 0 ≡ get_or out.old.numbers.items k 0 }
+    ensures outputs { (i : ℕ) → i < out.old.entries
+        → output_at out.old.flags out.new.numbers.items i ≡ get_or outputs.now i 0 }
 {
     for index in 0..outputs.len() {
         out.set_output(index as usize, *outputs.get(index));
@@ -73,10 +76,14 @@ fn put_outputs(outputs: &Numbers, out: &mut Room)
 
 /// Leaves these looks.
 fn put_looks(looks: &Numbers, out: &mut Room)
-    requires { 2 + out.old.flags + out.old.entries + length looks.now ≡ length out.old.numbers.items }
+    requires { 2 + out.old.flags + out.old.entries + length looks.now
+        ≡ length out.old.numbers.items }
     ensures beside { IsRoomBeside out.old out.new }
-    ensures others { (k : ℕ) → k < 2 + out.old.flags + out.old.entries → get_or out.new.numbers.items k 0 ≡ get_or out.old.numbers.items k 0 }
-    ensures looks { (i : ℕ) → i < length looks.now → get_or out.new.numbers.items (2 + out.old.flags + out.old.entries + i) 0 ≡ get_or looks.now i 0 }
+    ensures others { (k : ℕ) → k < 2 + out.old.flags + out.old.entries
+        → get_or out.new.numbers.items k 0 ≡ get_or out.old.numbers.items k 0 }
+    ensures looks { (i : ℕ) → i < length looks.now
+        → get_or out.new.numbers.items (2 + out.old.flags + out.old.entries + i) 0
+        ≡ get_or looks.now i 0 }
 {
     for index in 0..looks.len() {
         out.set_look(index as usize, *looks.get(index));
@@ -134,7 +141,8 @@ impl HRow {
     pub fn read(&mut self, line: &HedgeLine)
         requires { FitsRoom 0 self.old.room line.now.states line.now.outs line.now.looks }
         ensures beside { IsRoomBeside self.old.room self.new.room }
-        ensures line { IsLine 0 self.new.room line.now.ends line.now.bears line.now.states line.now.outs line.now.looks }
+        ensures line { IsLine 0 self.new.room line.now.ends line.now.bears line.now.states
+            line.now.outs line.now.looks }
         ensures flags { AreFlags self.new.room }
     {
         put_line(
@@ -161,7 +169,8 @@ impl TRow {
     /// There is no memory for the line, or a part is longer than its list can be.
     pub fn line(&self, alloc: Global) -> Result<TreeLine, NoMemory>
         requires { self.now.room.flags ≤ 4294967295 }
-        ensures { IfOk result (λ l. IsLine 1 self.now.room l.text l.bears l.patterns l.outs l.looks) }
+        ensures { IfOk result
+            (λ l. IsLine 1 self.now.room l.text l.bears l.patterns l.outs l.looks) }
     {
         let patterns = places_of(alloc, 1, self.room.flags())?;
         let outs = list_of(alloc, self.room.outputs())?;
@@ -179,7 +188,8 @@ impl TRow {
     pub fn read(&mut self, line: &TreeLine)
         requires { FitsRoom 1 self.old.room line.now.patterns line.now.outs line.now.looks }
         ensures beside { IsRoomBeside self.old.room self.new.room }
-        ensures line { IsLine 1 self.new.room line.now.text line.now.bears line.now.patterns line.now.outs line.now.looks }
+        ensures line { IsLine 1 self.new.room line.now.text line.now.bears line.now.patterns
+            line.now.outs line.now.looks }
         ensures flags { AreFlags self.new.room }
     {
         put_line(

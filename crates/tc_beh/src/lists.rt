@@ -32,7 +32,8 @@ fn hold(outputs: &mut Pool, set: &Mat) -> Result<(), NoMemory>
     requires size { set.now.size ≡ outputs.old.size }
     requires absent { ¬ IsHeld outputs.old set.now }
     requires few { length outputs.old.matrices < 65536 }
-    ensures { OnOk result (outputs.new ≡ record outputs.old { matrices = outputs.old.matrices ++ set.now ∷ [] }) }
+    ensures { OnOk result
+        (outputs.new ≡ record outputs.old { matrices = outputs.old.matrices ++ set.now ∷ [] }) }
 {
     match outputs.intern(set) {
         Ok(_) => Ok(()),

@@ -18,7 +18,8 @@ use tc_rules::{Marks, Rules};
 pub(crate) fn look(rules: &Rules<'_>, looks: &[u32], path: &Path<'_>) -> u32
     requires rules { AreRules rules.now }
     requires path { Contains (looks_of (told rules.now).sheet) (see.path path.now) }
-    ensures { (x : Triple) → IsRulesIn x rules.now → result ≡ look_from x looks.now (looking (see.path path.now) (first_state (see.path path.now))) }
+    ensures { (x : Triple) → IsRulesIn x rules.now → result
+        ≡ look_from x looks.now (looking (see.path path.now) (first_state (see.path path.now))) }
 {
     match rules.look_first(path) {
         None => 0,
@@ -41,7 +42,8 @@ pub(crate) fn number_at(numbers: &[u32], place: u32) -> u32
 pub(crate) fn holds(rules: &Rules<'_>, looks: &[u32], test: &Test<'_>) -> bool
     requires rules { AreRules rules.now }
     requires test { IsPartTest (told rules.now).sheet (see.test test.now) }
-    ensures { (x : Triple) → IsRulesIn x rules.now → result ≡ holds_by (see.test test.now) (λ p. look_from x looks.now (looking p (first_state p))) }
+    ensures { (x : Triple) → IsRulesIn x rules.now → result
+        ≡ holds_by (see.test test.now) (λ p. look_from x looks.now (looking p (first_state p))) }
 {
     match test {
         Test::True => true,
@@ -58,7 +60,9 @@ pub(crate) fn holds(rules: &Rules<'_>, looks: &[u32], test: &Test<'_>) -> bool
 fn all_hold(rules: &Rules<'_>, looks: &[u32], tests: &[Test<'_>]) -> bool
     requires rules { AreRules rules.now }
     requires tests { ArePartTests (told rules.now).sheet (see.tests tests.now) }
-    ensures { (x : Triple) → IsRulesIn x rules.now → result ≡ all_hold_by (see.tests tests.now) (λ p. look_from x looks.now (looking p (first_state p))) }
+    ensures { (x : Triple) → IsRulesIn x rules.now → result
+        ≡ all_hold_by (see.tests tests.now)
+        (λ p. look_from x looks.now (looking p (first_state p))) }
 {
     for test in tests {
         if !holds(rules, looks, test) {
@@ -73,7 +77,9 @@ fn all_hold(rules: &Rules<'_>, looks: &[u32], tests: &[Test<'_>]) -> bool
 fn some_holds(rules: &Rules<'_>, looks: &[u32], tests: &[Test<'_>]) -> bool
     requires rules { AreRules rules.now }
     requires tests { ArePartTests (told rules.now).sheet (see.tests tests.now) }
-    ensures { (x : Triple) → IsRulesIn x rules.now → result ≡ some_holds_by (see.tests tests.now) (λ p. look_from x looks.now (looking p (first_state p))) }
+    ensures { (x : Triple) → IsRulesIn x rules.now → result
+        ≡ some_holds_by (see.tests tests.now)
+        (λ p. look_from x looks.now (looking p (first_state p))) }
 {
     for test in tests {
         if holds(rules, looks, test) {
@@ -86,7 +92,10 @@ fn some_holds(rules: &Rules<'_>, looks: &[u32], tests: &[Test<'_>]) -> bool
 /// Which predicates hold on a node of these looks.
 pub(crate) fn marks(rules: &Rules<'_>, looks: &[u32]) -> Marks
     requires { AreRules rules.now }
-    ensures { (x : Triple) → IsRulesIn x rules.now → result.0 ≡ marks_of (map (λ p. holds_by p (λ p. look_from x looks.now (looking p (first_state p)))) (predicates_of x)) }
+    ensures { (x : Triple) → IsRulesIn x rules.now → result.0
+        ≡ marks_of
+        (map (λ p. holds_by p (λ p. look_from x looks.now (looking p (first_state p))))
+        (predicates_of x)) }
 {
     let mut marks = 0;
     let mut number = rules.predicates();

@@ -18,10 +18,15 @@ use tc_rules::{Kind, Marks, Rules};
 
 /// What a state of a look finds below an element that isn't a hit.
 fn look_below(rules: &Rules<'_>, looks: &[u32], sym: Sym, marks: Marks, state: u32) -> u32
-    requires letter { (x : Triple) × IsRulesIn x rules.now × IsLetter x.symbols (predicates x) (letter (Kind.Elem sym) marks) }
+    requires letter { (x : Triple) × IsRulesIn x rules.now
+        × IsLetter x.symbols (predicates x) (letter (Kind.Elem sym) marks) }
     requires state { state < select_count (told rules.now) }
     requires few { (i : ℕ) → get_or looks.now i 0 ≤ 2 }
-    ensures value { (x : Triple) (s : Looking) → IsRulesIn x rules.now → IsLetter x.symbols (predicates x) (letter (Kind.Elem sym) marks) → IsLookAt x.rules state s → result ≡ found_below x looks.now (letter (Kind.Elem sym) marks) s (letter (Kind.Elem sym) marks).kind }
+    ensures value { (x : Triple) (s : Looking) → IsRulesIn x rules.now
+        → IsLetter x.symbols (predicates x) (letter (Kind.Elem sym) marks)
+        → IsLookAt x.rules state s → result
+        ≡ found_below x looks.now (letter (Kind.Elem sym) marks) s
+        (letter (Kind.Elem sym) marks).kind }
     ensures few { result ≤ 2 }
 {
     match rules.sel_step(state, sym, marks) {
@@ -39,10 +44,13 @@ fn look_above(
     marks: Marks,
     state: u32,
 ) -> u32
-    requires letter { (x : Triple) × IsRulesIn x rules.now × IsLetter x.symbols (predicates x) (letter kind marks) }
+    requires letter { (x : Triple) × IsRulesIn x rules.now
+        × IsLetter x.symbols (predicates x) (letter kind marks) }
     requires state { state < select_count (told rules.now) }
     requires few { (i : ℕ) → get_or looks.now i 0 ≤ 2 }
-    ensures value { (x : Triple) (s : Looking) → IsRulesIn x rules.now → IsLetter x.symbols (predicates x) (letter kind marks) → IsLookAt x.rules state s → result ≡ found_above x bears looks.now (letter kind marks) s }
+    ensures value { (x : Triple) (s : Looking) → IsRulesIn x rules.now
+        → IsLetter x.symbols (predicates x) (letter kind marks) → IsLookAt x.rules state s → result
+        ≡ found_above x bears looks.now (letter kind marks) s }
     ensures few { result ≤ 2 }
 {
     if rules.sel_hits(state, kind, marks) {
@@ -63,13 +71,20 @@ pub(crate) fn put_looks(
     marks: Marks,
     out: &mut Room,
 )
-    requires letter { (x : Triple) × IsRulesIn x rules.now × IsLetter x.symbols (predicates x) (letter kind marks) }
+    requires letter { (x : Triple) × IsRulesIn x rules.now
+        × IsLetter x.symbols (predicates x) (letter kind marks) }
     requires few { (i : ℕ) → get_or looks.now i 0 ≤ 2 }
-    requires room { (x : Triple) → IsRulesIn x rules.now → 2 + out.old.flags + out.old.entries + looks_of x ≤ length out.old.numbers.items }
+    requires room { (x : Triple) → IsRulesIn x rules.now
+        → 2 + out.old.flags + out.old.entries + looks_of x ≤ length out.old.numbers.items }
     ensures beside { IsRoomBeside out.old out.new }
-    ensures others { (k : ℕ) → k < 2 + out.old.flags + out.old.entries → get_or out.new.numbers.items k 0 ≡ get_or out.old.numbers.items k 0 }
-    ensures few { (x : Triple) (i : ℕ) → IsRulesIn x rules.now → i < looks_of x → get_or out.new.numbers.items (2 + out.old.flags + out.old.entries + i) 0 ≤ 2 }
-    ensures looks { (x : Triple) (k : ℕ) (s : Looking) → IsRulesIn x rules.now → IsLetter x.symbols (predicates x) (letter kind marks) → IsLookAt x.rules k s → get_or out.new.numbers.items (2 + out.old.flags + out.old.entries + (k - moves x)) 0 ≡ found_above x bears looks.now (letter kind marks) s }
+    ensures others { (k : ℕ) → k < 2 + out.old.flags + out.old.entries
+        → get_or out.new.numbers.items k 0 ≡ get_or out.old.numbers.items k 0 }
+    ensures few { (x : Triple) (i : ℕ) → IsRulesIn x rules.now → i < looks_of x
+        → get_or out.new.numbers.items (2 + out.old.flags + out.old.entries + i) 0 ≤ 2 }
+    ensures looks { (x : Triple) (k : ℕ) (s : Looking) → IsRulesIn x rules.now
+        → IsLetter x.symbols (predicates x) (letter kind marks) → IsLookAt x.rules k s
+        → get_or out.new.numbers.items (2 + out.old.flags + out.old.entries + (k - moves x)) 0
+        ≡ found_above x bears looks.now (letter kind marks) s }
 {
     let first = rules.moves();
     for place in 0..rules.looks() {

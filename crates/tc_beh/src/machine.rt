@@ -89,8 +89,10 @@ fn entries_of(rules: &Rules<'_>) -> u32
 /// Of the limits that are passed the first.
 fn order_of(alloc: Global, rules: &Rules<'_>) -> Result<Vec<usize>, MachineFault>
     requires { AreRules rules.now }
-    ensures order { IfOk result (λ o. (x : Triple) → IsRulesIn x rules.now → AreCalleesFirst (t.sheet x).named o.items) }
-    ensures shallow { OnOk result ((x : Triple) → IsRulesIn x rules.now → max (deepest_rule (t.sheet x).rules) (deepest (t.sheet x).named) ≤ 8000) }
+    ensures order { IfOk result
+        (λ o. (x : Triple) → IsRulesIn x rules.now → AreCalleesFirst (t.sheet x).named o.items) }
+    ensures shallow { OnOk result ((x : Triple) → IsRulesIn x rules.now
+        → max (deepest_rule (t.sheet x).rules) (deepest (t.sheet x).named) ≤ 8000) }
     ensures within { OnOk result ((x : Triple) → IsRulesIn x rules.now → KeepsLimits x) }
     ensures cause { IfErr result (λ e. (x : Triple) → IsRulesIn x rules.now → IsMachineCause x e) }
 {
@@ -125,9 +127,12 @@ impl<'b> Machine<'b> {
         alphabet: Alphabet,
     ) -> Result<Machine<'b>, MachineFault>
         requires { AreSomeParts input output rules alphabet }
-        ensures stands { IfOk result (λ m. (x : Triple) → AreParts x input.entry output.entry rules.entry alphabet → IsMachineOf x m) }
-        ensures within { OnOk result ((x : Triple) → AreParts x input.entry output.entry rules.entry alphabet → KeepsLimits x) }
-        ensures cause { IfErr result (λ e. (x : Triple) → AreParts x input.entry output.entry rules.entry alphabet → IsMachineCause x e) }
+        ensures stands { IfOk result (λ m. (x : Triple)
+            → AreParts x input.entry output.entry rules.entry alphabet → IsMachineOf x m) }
+        ensures within { OnOk result ((x : Triple)
+            → AreParts x input.entry output.entry rules.entry alphabet → KeepsLimits x) }
+        ensures cause { IfErr result (λ e. (x : Triple)
+            → AreParts x input.entry output.entry rules.entry alphabet → IsMachineCause x e) }
     {
         let order = order_of(alloc, &rules)?;
         let depth = depth_of_sheet(rules.sheet());

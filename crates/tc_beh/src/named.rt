@@ -30,7 +30,8 @@ pub(crate) fn put_named(
     requires sets { IsOpenAt place.now (deepest (told place.now.rules.now).sheet.named) sets.old }
     ensures named { AreNamedSets place.now named.new }
     ensures same { IsBeside place.now.output.now place.now.outputs.now sets.old sets.new }
-    ensures called { (x : Triple) (n : ℕ) → IsGroundIn x place.now → IsCalled x (kind_of place.now.node) (below_of x place.now) (called_from named.new) n }
+    ensures called { (x : Triple) (n : ℕ) → IsGroundIn x place.now
+        → IsCalled x (kind_of place.now.node) (below_of x place.now) (called_from named.new) n }
 {
     for number in order {
         put_one_named(place, *number, named, sets);
@@ -45,9 +46,13 @@ fn put_one_named(place: &Place<'_, '_>, number: usize, named: &mut [Mat], sets: 
     requires sets { IsOpenAt place.now (deepest (told place.now.rules.now).sheet.named) sets.old }
     ensures named { AreNamedSets place.now named.new }
     ensures same { IsBeside place.now.output.now place.now.outputs.now sets.old sets.new }
-    ensures others { (n : ℕ) → n ≢ number → get_or named.new n no_matrix ≡ get_or named.old n no_matrix }
+    ensures others { (n : ℕ) → n ≢ number → get_or named.new n no_matrix
+        ≡ get_or named.old n no_matrix }
     ensures called { (x : Triple) → IsGroundIn x place.now →
-        HaveSamePairs (has (get_or named.new number no_matrix)) (product (stay x) (put_pairs x (kind_of place.now.node) (below_of x place.now) (called_from named.old) (get_or (told place.now.rules.now).sheet.named number no_instruction))) }
+        HaveSamePairs (has (get_or named.new number no_matrix))
+        (product (stay x)
+        (put_pairs x (kind_of place.now.node) (below_of x place.now) (called_from named.old)
+        (get_or (told place.now.rules.now).sheet.named number no_instruction))) }
 {
     let body = place.rules.sheet().named[number];
     sets.restart();

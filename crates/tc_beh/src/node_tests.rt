@@ -19,7 +19,8 @@ pub enum Asked<'b> {
 
 /// One more node test.
 fn add<'b>(found: &mut Vec<NodeTest<'b>>, test: NodeTest<'b>) -> Result<(), NoMemory>
-    ensures { OnOk result (seen found.new.items ≡ seen found.old.items ++ see.node_test test.entry ∷ []) }
+    ensures { OnOk result
+        (seen found.new.items ≡ seen found.old.items ++ see.node_test test.entry ∷ []) }
 {
     found.push(test)?;
     Ok(())
@@ -28,7 +29,8 @@ fn add<'b>(found: &mut Vec<NodeTest<'b>>, test: NodeTest<'b>) -> Result<(), NoMe
 /// Adds the node tests of steps, and those in their predicates.
 #[cycle(paths)]
 fn add_steps<'b>(found: &mut Vec<NodeTest<'b>>, steps: &[Step<'b>]) -> Result<(), NoMemory>
-    ensures { OnOk result (seen found.new.items ≡ seen found.old.items ++ in_steps itself no_test_of (see.steps steps.now)) }
+    ensures { OnOk result (seen found.new.items ≡ seen found.old.items
+        ++ in_steps itself no_test_of (see.steps steps.now)) }
 {
     for step in steps {
         add(found, step.test)?;
@@ -39,7 +41,8 @@ fn add_steps<'b>(found: &mut Vec<NodeTest<'b>>, steps: &[Step<'b>]) -> Result<()
 
 #[cycle(paths)]
 fn add_path<'b>(found: &mut Vec<NodeTest<'b>>, path: &Path<'b>) -> Result<(), NoMemory>
-    ensures { OnOk result (seen found.new.items ≡ seen found.old.items ++ in_path itself no_test_of (see.path path.now)) }
+    ensures { OnOk result (seen found.new.items ≡ seen found.old.items
+        ++ in_path itself no_test_of (see.path path.now)) }
 {
     for steps in path.alts {
         add_steps(found, steps)?;
@@ -50,7 +53,8 @@ fn add_path<'b>(found: &mut Vec<NodeTest<'b>>, path: &Path<'b>) -> Result<(), No
 #[cycle(paths)]
 #[tactic(auto, using(tc_model::proofs::ViewsPath::see_test))]
 fn add_test<'b>(found: &mut Vec<NodeTest<'b>>, test: &Test<'b>) -> Result<(), NoMemory>
-    ensures { OnOk result (seen found.new.items ≡ seen found.old.items ++ in_test itself no_test_of (see.test test.now)) }
+    ensures { OnOk result (seen found.new.items ≡ seen found.old.items
+        ++ in_test itself no_test_of (see.test test.now)) }
 {
     match test {
         Test::True | Test::False => Ok(()),
@@ -62,7 +66,8 @@ fn add_test<'b>(found: &mut Vec<NodeTest<'b>>, test: &Test<'b>) -> Result<(), No
 
 #[cycle(paths)]
 fn add_tests<'b>(found: &mut Vec<NodeTest<'b>>, tests: &[Test<'b>]) -> Result<(), NoMemory>
-    ensures { OnOk result (seen found.new.items ≡ seen found.old.items ++ in_tests itself no_test_of (see.tests tests.now)) }
+    ensures { OnOk result (seen found.new.items ≡ seen found.old.items
+        ++ in_tests itself no_test_of (see.tests tests.now)) }
 {
     for test in tests {
         add_test(found, test)?;
@@ -71,7 +76,8 @@ fn add_tests<'b>(found: &mut Vec<NodeTest<'b>>, tests: &[Test<'b>]) -> Result<()
 }
 
 fn add_pattern<'b>(found: &mut Vec<NodeTest<'b>>, pattern: &Pattern<'b>) -> Result<(), NoMemory>
-    ensures { OnOk result (seen found.new.items ≡ seen found.old.items ++ in_pattern itself no_test_of (see.match_pattern pattern.now)) }
+    ensures { OnOk result (seen found.new.items ≡ seen found.old.items
+        ++ in_pattern itself no_test_of (see.match_pattern pattern.now)) }
 {
     match pattern {
         Pattern::Root => Ok(()),
@@ -82,7 +88,8 @@ fn add_pattern<'b>(found: &mut Vec<NodeTest<'b>>, pattern: &Pattern<'b>) -> Resu
 /// Adds the node tests of the paths and tests of instructions.
 #[cycle(bodies)]
 fn add_body<'b>(found: &mut Vec<NodeTest<'b>>, body: &[Instr<'b>]) -> Result<(), NoMemory>
-    ensures { OnOk result (seen found.new.items ≡ seen found.old.items ++ in_body itself no_test_of (see.body body.now)) }
+    ensures { OnOk result (seen found.new.items ≡ seen found.old.items
+        ++ in_body itself no_test_of (see.body body.now)) }
 {
     for instruction in body {
         add_instruction(found, instruction)?;
@@ -96,7 +103,10 @@ fn add_instruction<'b>(
     found: &mut Vec<NodeTest<'b>>,
     instruction: &Instr<'b>,
 ) -> Result<(), NoMemory>
-    ensures { OnOk result ((rest : s.Body) → seen found.new.items ++ in_body itself no_test_of rest ≡ seen found.old.items ++ in_body itself no_test_of (see.instruction instruction.now rest)) }
+    ensures { OnOk result
+        ((rest : s.Body) → seen found.new.items ++ in_body itself no_test_of rest
+        ≡ seen found.old.items
+        ++ in_body itself no_test_of (see.instruction instruction.now rest)) }
 {
     match instruction {
         Instr::Text(_) | Instr::Call(_) | Instr::ValueOfSelf => Ok(()),
@@ -115,7 +125,9 @@ fn add_instruction<'b>(
 
 #[cycle(bodies)]
 fn add_branches<'b>(found: &mut Vec<NodeTest<'b>>, branches: &[Branch<'b>]) -> Result<(), NoMemory>
-    ensures { OnOk result ((rest : s.Branches) → seen found.new.items ++ in_branches itself no_test_of rest ≡ seen found.old.items ++ in_branches itself no_test_of (see.branches branches.now rest)) }
+    ensures { OnOk result
+        ((rest : s.Branches) → seen found.new.items ++ in_branches itself no_test_of rest
+        ≡ seen found.old.items ++ in_branches itself no_test_of (see.branches branches.now rest)) }
 {
     for branch in branches {
         add_test(found, &branch.test)?;
@@ -126,7 +138,8 @@ fn add_branches<'b>(found: &mut Vec<NodeTest<'b>>, branches: &[Branch<'b>]) -> R
 
 /// Adds the node tests of a stylesheet, also those in bodies that are never called.
 fn add_sheet<'b>(found: &mut Vec<NodeTest<'b>>, sheet: &Sheet<'b>) -> Result<(), NoMemory>
-    ensures { OnOk result (seen found.new.items ≡ seen found.old.items ++ node_tests (see.sheet sheet.now)) }
+    ensures { OnOk result
+        (seen found.new.items ≡ seen found.old.items ++ node_tests (see.sheet sheet.now)) }
 {
     for rule in sheet.rules {
         add_pattern(found, &rule.pattern)?;
@@ -140,7 +153,8 @@ fn add_sheet<'b>(found: &mut Vec<NodeTest<'b>>, sheet: &Sheet<'b>) -> Result<(),
 
 /// What a node test asks, if not all elements pass it, or none does.
 fn asked_by<'b>(test: &NodeTest<'b>) -> Option<Asked<'b>>
-    ensures { MatchOption result (¬ Asks (see.node_test test.now)) (λ a. asked_test a ≡ see.node_test test.now) }
+    ensures { MatchOption result (¬ Asks (see.node_test test.now))
+        (λ a. asked_test a ≡ see.node_test test.now) }
 {
     match test {
         NodeTest::Name(name) => Some(Asked::Name(*name)),
@@ -151,7 +165,8 @@ fn asked_by<'b>(test: &NodeTest<'b>) -> Option<Asked<'b>>
 
 /// Puts what a node test asks, unless it is there already.
 fn put<'b>(found: &mut IndexSet<Asked<'b>>, test: &NodeTest<'b>) -> Result<(), NoMemory>
-    ensures { OnOk result (IsPut (asked_tests found.old.keys) (see.node_test test.now) (asked_tests found.new.keys)) }
+    ensures { OnOk result
+        (IsPut (asked_tests found.old.keys) (see.node_test test.now) (asked_tests found.new.keys)) }
 {
     if let Some(asked) = asked_by(test) {
         found.insert(asked)?;

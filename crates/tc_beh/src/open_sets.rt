@@ -266,7 +266,9 @@ impl OpenSets {
         ensures remembers { Remembers output.now self.new.met }
         ensures links { (h : Held) → AreLinked h self.old.met → AreLinked h self.new.met }
         ensures pairs { (o : Matrix) (us : List Matrix) → self.old.under ≡ o ∷ us
-            → (self.new.under ≡ us) × ((led : Matrix) × IsAround output.now symbol.0 self.old.out led × IsComposition o led self.new.out) }
+            → (self.new.under ≡ us)
+            × ((led : Matrix) × IsAround output.now symbol.0 self.old.out led
+            × IsComposition o led self.new.out) }
     {
         let inner = &self.places[self.free];
         let number = self

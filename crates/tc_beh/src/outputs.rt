@@ -26,10 +26,14 @@ pub enum RowFault {
 pub(crate) fn keep(outputs: &mut HeldSets, is_fixed: bool, set: &Mat) -> Result<u32, RowFault>
     requires { set.now.size ≡ outputs.old.size }
     ensures number { IfOk result (λ k. slice_get outputs.new.matrices k ≡ Some set.now) }
-    ensures grows { IfOk result (λ k. (outputs.new ≡ outputs.old) ⊎ ((k ≡ length outputs.old.matrices) × (outputs.new ≡ record outputs.old { matrices = outputs.old.matrices ++ set.now ∷ [] }))) }
+    ensures grows { IfOk result
+        (λ k. (outputs.new ≡ outputs.old)
+        ⊎ ((k ≡ length outputs.old.matrices)
+        × (outputs.new ≡ record outputs.old { matrices = outputs.old.matrices ++ set.now ∷ [] }))) }
     ensures err { OnErr result ((outputs.new ≡ outputs.old) × ¬ IsHeld outputs.old set.now) }
     ensures fixed { is_fixed ≡ true → outputs.new ≡ outputs.old }
-    ensures full { IsErrOf result RowFault.TooManyOutputs → (is_fixed ≡ false) × (length outputs.old.matrices ≡ 65536) }
+    ensures full { IsErrOf result RowFault.TooManyOutputs → (is_fixed ≡ false)
+        × (length outputs.old.matrices ≡ 65536) }
     ensures fresh { IsErrOf result RowFault.NewOutput → is_fixed ≡ true }
     ensures memory { IsErrOf result RowFault.NoMemory → is_fixed ≡ false }
 {
@@ -59,11 +63,19 @@ fn keep_product(
     requires second { second < length outputs.old.matrices }
     ensures set { set.new.size ≡ set.old.size }
     ensures held { Extends outputs.old outputs.new }
-    ensures pairs { IfOk result (λ k. (k < length outputs.new.matrices) × IsComposition (set_at outputs.old first) (set_at outputs.old second) (set_at outputs.new k)) }
-    ensures grows { IfOk result (λ k. ((k < length outputs.old.matrices) × (outputs.new ≡ outputs.old)) ⊎ ((k ≡ length outputs.old.matrices) × (length outputs.new.matrices ≡ length outputs.old.matrices + 1))) }
-    ensures err { OnErr result ((outputs.new ≡ outputs.old) × IsNew outputs.old (set_at outputs.old first) (set_at outputs.old second)) }
+    ensures pairs { IfOk result
+        (λ k. (k < length outputs.new.matrices)
+        × IsComposition (set_at outputs.old first) (set_at outputs.old second)
+        (set_at outputs.new k)) }
+    ensures grows { IfOk result
+        (λ k. ((k < length outputs.old.matrices) × (outputs.new ≡ outputs.old))
+        ⊎ ((k ≡ length outputs.old.matrices)
+        × (length outputs.new.matrices ≡ length outputs.old.matrices + 1))) }
+    ensures err { OnErr result ((outputs.new ≡ outputs.old)
+        × IsNew outputs.old (set_at outputs.old first) (set_at outputs.old second)) }
     ensures fixed { is_fixed ≡ true → outputs.new ≡ outputs.old }
-    ensures full { IsErrOf result RowFault.TooManyOutputs → (is_fixed ≡ false) × (length outputs.old.matrices ≡ 65536) }
+    ensures full { IsErrOf result RowFault.TooManyOutputs → (is_fixed ≡ false)
+        × (length outputs.old.matrices ≡ 65536) }
     ensures fresh { IsErrOf result RowFault.NewOutput → is_fixed ≡ true }
     ensures memory { IsErrOf result RowFault.NoMemory → is_fixed ≡ false }
 {
@@ -88,18 +100,33 @@ pub(crate) fn put_products(
     requires set { set.old.size ≡ outputs.old.size }
     requires first_count { length first.now ≡ out.old.entries }
     requires second_count { length second.now ≡ out.old.entries }
-    requires first { (i : ℕ) → i < length first.now → get_or first.now i 0 < length outputs.old.matrices }
-    requires second { (i : ℕ) → i < length second.now → get_or second.now i 0 < length outputs.old.matrices }
+    requires first { (i : ℕ) → i < length first.now
+        → get_or first.now i 0 < length outputs.old.matrices }
+    requires second { (i : ℕ) → i < length second.now
+        → get_or second.now i 0 < length outputs.old.matrices }
     ensures set { set.new.size ≡ set.old.size }
     ensures beside { IsRoomBeside out.old out.new }
-    ensures others { (k : ℕ) → (k < 2 + out.old.flags) ⊎ (2 + out.old.flags + out.old.entries ≤ k) → get_or out.new.numbers.items k 0 ≡ get_or out.old.numbers.items k 0 }
+    ensures others { (k : ℕ) → (k < 2 + out.old.flags) ⊎ (2 + out.old.flags + out.old.entries ≤ k)
+        → get_or out.new.numbers.items k 0 ≡ get_or out.old.numbers.items k 0 }
     ensures held { Extends outputs.old outputs.new }
-    ensures grows { OnOk result (Grows outputs.old outputs.new (output_at out.old.flags out.new.numbers.items) out.old.entries) }
-    ensures pairs { OnOk result ((i : ℕ) → i < out.old.entries → IsComposition (set_at outputs.old (get_or first.now i 0)) (set_at outputs.old (get_or second.now i 0)) (set_at outputs.new (output_at out.old.flags out.new.numbers.items i))) }
-    ensures partly { OnErr result (AreProducts outputs.old outputs.new (λ i. get_or first.now i 0) (λ i. get_or second.now i 0) out.old.entries) }
-    ensures err { OnErr result ((i : ℕ) × (i < out.old.entries) × IsNew outputs.new (set_at outputs.old (get_or first.now i 0)) (set_at outputs.old (get_or second.now i 0))) }
+    ensures grows { OnOk result
+        (Grows outputs.old outputs.new
+        (output_at out.old.flags out.new.numbers.items) out.old.entries) }
+    ensures pairs { OnOk result
+        ((i : ℕ) → i < out.old.entries
+        → IsComposition (set_at outputs.old (get_or first.now i 0))
+        (set_at outputs.old (get_or second.now i 0))
+        (set_at outputs.new (output_at out.old.flags out.new.numbers.items i))) }
+    ensures partly { OnErr result
+        (AreProducts outputs.old outputs.new (λ i. get_or first.now i 0)
+        (λ i. get_or second.now i 0) out.old.entries) }
+    ensures err { OnErr result
+        ((i : ℕ) × (i < out.old.entries)
+        × IsNew outputs.new (set_at outputs.old (get_or first.now i 0))
+        (set_at outputs.old (get_or second.now i 0))) }
     ensures fixed { is_fixed ≡ true → outputs.new ≡ outputs.old }
-    ensures full { IsErrOf result RowFault.TooManyOutputs → (is_fixed ≡ false) × (length outputs.new.matrices ≡ 65536) }
+    ensures full { IsErrOf result RowFault.TooManyOutputs → (is_fixed ≡ false)
+        × (length outputs.new.matrices ≡ 65536) }
     ensures fresh { IsErrOf result RowFault.NewOutput → is_fixed ≡ true }
     ensures memory { IsErrOf result RowFault.NoMemory → is_fixed ≡ false }
 {

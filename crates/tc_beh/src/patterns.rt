@@ -21,7 +21,9 @@ use tc_hedge::Hedge;
 /// Whether the content of an element pattern accepts in a state that has a flag.
 fn is_taken(auto: &Auto<'_>, number: u32, states: &[u32]) -> bool
     requires { number ≤ patterns_of auto.now }
-    ensures { (side : s.Side) (x : g.Grammar) → a.Stands side x auto.now → (e : g.ElementPattern) → g.element_at x.elements number ≡ Some e → IsTrue result ↔ IsTakenBy side x states.now number e }
+    ensures { (side : s.Side) (x : g.Grammar) → a.Stands side x auto.now → (e : g.ElementPattern)
+        → g.element_at x.elements number ≡ Some e → IsTrue result
+        ↔ IsTakenBy side x states.now number e }
 {
     let first = auto.first(number);
     let end = auto.end(number);
@@ -38,7 +40,9 @@ fn is_around(input: &Hedge<'_>, number: u32, sym: Sym, states: &[u32]) -> bool
     requires from_one { 1 ≤ number }
     requires within { number ≤ patterns_of input.now.auto }
     requires symbol { sym.0 < input.now.symbols }
-    ensures { (side : s.Side) (x : g.Grammar) (symbols : List Mention) → h.Stands side x symbols input.now → (name : n.ExpandedName) → symbol_of symbols name ≡ sym.0 → IsTrue result ↔ IsAroundBy side x name states.now number }
+    ensures { (side : s.Side) (x : g.Grammar) (symbols : List Mention)
+        → h.Stands side x symbols input.now → (name : n.ExpandedName) → symbol_of symbols name
+        ≡ sym.0 → IsTrue result ↔ IsAroundBy side x name states.now number }
 {
     input.allows(number, sym) && is_taken(input.auto(), number, states)
 }
@@ -49,7 +53,8 @@ pub(crate) fn put_patterns(input: &Hedge<'_>, sym: Sym, states: &[u32], out: &mu
     requires symbol { sym.0 < input.now.symbols }
     requires flags { out.old.flags ≡ patterns_of input.now.auto }
     ensures beside { IsRoomBeside out.old out.new }
-    ensures others { (k : ℕ) → (k < 2) ⊎ (2 + out.old.flags ≤ k) → get_or out.new.numbers.items k 0 ≡ get_or out.old.numbers.items k 0 }
+    ensures others { (k : ℕ) → (k < 2) ⊎ (2 + out.old.flags ≤ k) → get_or out.new.numbers.items k 0
+        ≡ get_or out.old.numbers.items k 0 }
     ensures flags { PutsPatterns input.now sym.0 states.now out.new.numbers.items }
     ensures some { IsTrue result ↔ Contains (flags_in out.new.flags out.new.numbers.items) 1 }
 {

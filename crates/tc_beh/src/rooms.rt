@@ -39,7 +39,8 @@ fn clear(numbers: &mut [u32], from: usize, to: usize)
     requires within { to ≤ length numbers.old }
     ensures count { length numbers.new ≡ length numbers.old }
     ensures cleared { (k : ℕ) → from ≤ k → k < to → get_or numbers.new k 0 ≡ 0 }
-    ensures others { (k : ℕ) → (k < from) ⊎ (to ≤ k) → get_or numbers.new k 0 ≡ get_or numbers.old k 0 }
+    ensures others { (k : ℕ) → (k < from) ⊎ (to ≤ k) → get_or numbers.new k 0
+        ≡ get_or numbers.old k 0 }
 {
     for place in from..to {
         numbers[place] = 0;
@@ -53,7 +54,8 @@ impl Room {
     fn new(alloc: Global, flags: u32, shape: Shape) -> Result<Room, NoMemory>
         ensures flags { IfOk result (λ r. r.flags ≡ flags) }
         ensures entries { IfOk result (λ r. r.entries ≡ shape.entries) }
-        ensures count { IfOk result (λ r. length r.numbers.items ≡ 2 + flags + shape.entries + shape.looks) }
+        ensures count { IfOk result
+            (λ r. length r.numbers.items ≡ 2 + flags + shape.entries + shape.looks) }
     {
         let flags = flags as usize;
         let entries = shape.entries as usize;
@@ -90,7 +92,8 @@ impl Room {
 
     /// The numbers of the outputs.
     pub(crate) fn outputs(&self) -> &[u32]
-        ensures value { result.now ≡ outputs_in self.now.flags self.now.entries self.now.numbers.items }
+        ensures value { result.now
+            ≡ outputs_in self.now.flags self.now.entries self.now.numbers.items }
         ensures count { length result.now ≡ self.now.entries }
     {
         let start = HEADS + self.flags;
@@ -107,8 +110,10 @@ impl Room {
     }
 
     pub(crate) fn looks(&self) -> &[u32]
-        ensures value { result.now ≡ looks_in self.now.flags self.now.entries self.now.numbers.items }
-        ensures count { 2 + self.now.flags + self.now.entries + length result.now ≡ length self.now.numbers.items }
+        ensures value { result.now
+            ≡ looks_in self.now.flags self.now.entries self.now.numbers.items }
+        ensures count { 2 + self.now.flags + self.now.entries + length result.now
+            ≡ length self.now.numbers.items }
     {
         let start = HEADS + self.flags + self.entries;
         &self.numbers.as_slice()[start..]
@@ -126,7 +131,8 @@ impl Room {
     pub(crate) fn clear_flags(&mut self)
         ensures beside { IsRoomBeside self.old self.new }
         ensures flags { (i : ℕ) → i < self.old.flags → flag_at self.new.numbers.items i ≡ 0 }
-        ensures others { (k : ℕ) → (k < 2) ⊎ (2 + self.old.flags ≤ k) → get_or self.new.numbers.items k 0 ≡ get_or self.old.numbers.items k 0 }
+        ensures others { (k : ℕ) → (k < 2) ⊎ (2 + self.old.flags ≤ k)
+            → get_or self.new.numbers.items k 0 ≡ get_or self.old.numbers.items k 0 }
     {
         let end = HEADS + self.flags;
         clear(self.numbers.as_mut_slice(), HEADS, end);
@@ -136,7 +142,8 @@ impl Room {
         requires { place < self.old.flags }
         ensures beside { IsRoomBeside self.old self.new }
         ensures flag { flag_at self.new.numbers.items place ≡ 1 }
-        ensures others { (k : ℕ) → k ≢ 2 + place → get_or self.new.numbers.items k 0 ≡ get_or self.old.numbers.items k 0 }
+        ensures others { (k : ℕ) → k ≢ 2 + place → get_or self.new.numbers.items k 0
+            ≡ get_or self.old.numbers.items k 0 }
     {
         self.numbers[HEADS + place] = 1;
     }
@@ -145,7 +152,8 @@ impl Room {
         requires { place < self.old.entries }
         ensures beside { IsRoomBeside self.old self.new }
         ensures output { output_at self.old.flags self.new.numbers.items place ≡ output }
-        ensures others { (k : ℕ) → k ≢ 2 + self.old.flags + place → get_or self.new.numbers.items k 0 ≡ get_or self.old.numbers.items k 0 }
+        ensures others { (k : ℕ) → k ≢ 2 + self.old.flags + place
+            → get_or self.new.numbers.items k 0 ≡ get_or self.old.numbers.items k 0 }
     {
         self.numbers[HEADS + self.flags + place] = output;
     }
@@ -153,8 +161,10 @@ impl Room {
     pub(crate) fn set_look(&mut self, place: usize, value: u32)
         requires { 2 + self.old.flags + self.old.entries + place < length self.old.numbers.items }
         ensures beside { IsRoomBeside self.old self.new }
-        ensures look { get_or self.new.numbers.items (2 + self.old.flags + self.old.entries + place) 0 ≡ value }
-        ensures others { (k : ℕ) → k ≢ 2 + self.old.flags + self.old.entries + place → get_or self.new.numbers.items k 0 ≡ get_or self.old.numbers.items k 0 }
+        ensures look { get_or self.new.numbers.items
+            (2 + self.old.flags + self.old.entries + place) 0 ≡ value }
+        ensures others { (k : ℕ) → k ≢ 2 + self.old.flags + self.old.entries + place
+            → get_or self.new.numbers.items k 0 ≡ get_or self.old.numbers.items k 0 }
     {
         self.numbers[HEADS + self.flags + self.entries + place] = value;
     }
@@ -181,7 +191,8 @@ impl HRow {
     /// There is no memory for the numbers.
     pub fn room(alloc: Global, machine: &Machine<'_>) -> Result<HRow, NoMemory>
         requires { IsMachine machine.now }
-        ensures { IfOk result (λ r. (x : Triple) → IsMachineOf x machine.now → IsRoomOf (hedge_layout x) r.room) }
+        ensures { IfOk result
+            (λ r. (x : Triple) → IsMachineOf x machine.now → IsRoomOf (hedge_layout x) r.room) }
     {
         let shape = machine.shape();
         let room = Room::new(alloc, shape.inputs, shape)?;
@@ -218,7 +229,8 @@ impl TRow {
     /// There is no memory for the numbers.
     pub fn room(alloc: Global, machine: &Machine<'_>) -> Result<TRow, NoMemory>
         requires { IsMachine machine.now }
-        ensures { IfOk result (λ r. (x : Triple) → IsMachineOf x machine.now → IsRoomOf (tree_layout x) r.room) }
+        ensures { IfOk result
+            (λ r. (x : Triple) → IsMachineOf x machine.now → IsRoomOf (tree_layout x) r.room) }
     {
         let shape = machine.shape();
         let room = Room::new(alloc, shape.patterns, shape)?;

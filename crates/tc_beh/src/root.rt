@@ -67,7 +67,9 @@ fn put_on_root(place: &Place<'_, '_>, sets: &mut OpenSets)
     requires sets { IsOpenAt place.now (depth_of_sheet (told place.now.rules.now).sheet) sets.old }
     ensures same { IsBeside place.now.output.now place.now.outputs.now sets.old sets.new }
     ensures pairs { (x : Triple) → IsPlaceIn x place.now → AreCalled x place.now
-        → Extends sets.old.out sets.new.out (body_pairs x (body_of_root x.symbols (predicates x) (sheet x).rules x.bodies (in_mode 0)) (kind_of place.now.node) (below_of x place.now)) }
+        → Extends sets.old.out sets.new.out
+        (body_pairs x (body_of_root x.symbols (predicates x) (sheet x).rules x.bodies (in_mode 0))
+        (kind_of place.now.node) (below_of x place.now)) }
 {
     let found = place.rules.root_rule(0);
     let template = template_of(place.rules, 0, found);

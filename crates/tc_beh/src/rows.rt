@@ -110,7 +110,8 @@ impl<'m, 'b> Rows<'m, 'b> {
     /// There is no memory for the room.
     pub fn new(alloc: Global, machine: &'m Machine<'b>) -> Result<Rows<'m, 'b>, NoMemory>
         requires { IsMachine machine.now }
-        ensures stands { IfOk result (λ r. (x : Triple) → IsMachineOf x machine.now → AreRowsOf x r) }
+        ensures stands { IfOk result
+            (λ r. (x : Triple) → IsMachineOf x machine.now → AreRowsOf x r) }
         ensures none { IfOk result (λ r. r.outputs.matrices ≡ []) }
         ensures grow { IfOk result (λ r. r.is_fixed ≡ false) }
         ensures machine { IfOk result (λ r. r.machine.now ≡ machine.now) }
@@ -132,8 +133,10 @@ impl<'m, 'b> Rows<'m, 'b> {
         requires machine { IsMachine machine.now }
         requires few { length outputs.now ≤ 65536 }
         requires distinct { AreDistinct outputs.now }
-        requires pairs { (x : Triple) → IsMachineOf x machine.now → All (IsPairs (output_states x)) outputs.now }
-        ensures stands { IfOk result (λ r. (x : Triple) → IsMachineOf x machine.now → AreRowsOf x r) }
+        requires pairs { (x : Triple) → IsMachineOf x machine.now
+            → All (IsPairs (output_states x)) outputs.now }
+        ensures stands { IfOk result
+            (λ r. (x : Triple) → IsMachineOf x machine.now → AreRowsOf x r) }
         ensures sets { IfOk result (λ r. sets_of r.outputs.matrices ≡ outputs.now) }
         ensures fixed { IfOk result (λ r. r.is_fixed ≡ true) }
         ensures machine { IfOk result (λ r. r.machine.now ≡ machine.now) }
@@ -154,7 +157,8 @@ impl<'m, 'b> Rows<'m, 'b> {
         is_fixed: bool,
     ) -> Result<Rows<'m, 'b>, NoMemory>
         requires { IsMachine machine.now }
-        ensures stands { IfOk result (λ r. (x : Triple) → IsMachineOf x machine.now → pool.size ≡ output_states x → AreRowsOf x r) }
+        ensures stands { IfOk result (λ r. (x : Triple) → IsMachineOf x machine.now → pool.size
+            ≡ output_states x → AreRowsOf x r) }
         ensures outputs { IfOk result (λ r. r.outputs ≡ pool) }
         ensures fixed { IfOk result (λ r. r.is_fixed ≡ is_fixed) }
         ensures machine { IfOk result (λ r. r.machine.now ≡ machine.now) }
@@ -223,16 +227,24 @@ impl<'m, 'b> Rows<'m, 'b> {
     /// memory (`NoMemory`).
     pub fn empty_row(&mut self, out: &mut HRow) -> Result<(), RowFault>
         requires rows { AreRows self.old }
-        requires room { (x : Triple) → AreRowsOf x self.old → IsRoomOf (hedge_layout x) out.old.room }
+        requires room { (x : Triple) → AreRowsOf x self.old
+            → IsRoomOf (hedge_layout x) out.old.room }
         ensures rows { (x : Triple) → AreRowsOf x self.old → AreRowsOf x self.new }
         ensures same { AreSameRows self.old self.new }
         ensures room { IsRoomBeside out.old.room out.new.room }
         ensures held { Extends self.old.outputs self.new.outputs }
-        ensures row { OnOk result ((x : Triple) → AreRowsOf x self.old → StandsForHedge x self.new out.new × IsEmptyRow x (hedge_of x self.new out.new)) }
-        ensures grows { OnOk result (Grows self.old.outputs self.new.outputs (output_at out.new.room.flags out.new.room.numbers.items) out.new.room.entries) }
-        ensures partly { OnErr result ((x : Triple) (r : HedgeRow) → AreRowsOf x self.old → IsEmptyRow x r → GrowsBy self.old.outputs self.new.outputs r.entries × IsLeftOut self.new.outputs r.entries) }
+        ensures row { OnOk result ((x : Triple) → AreRowsOf x self.old
+            → StandsForHedge x self.new out.new × IsEmptyRow x (hedge_of x self.new out.new)) }
+        ensures grows { OnOk result
+            (Grows self.old.outputs self.new.outputs
+            (output_at out.new.room.flags out.new.room.numbers.items) out.new.room.entries) }
+        ensures partly { OnErr result
+            ((x : Triple) (r : HedgeRow) → AreRowsOf x self.old → IsEmptyRow x r
+            → GrowsBy self.old.outputs self.new.outputs r.entries
+            × IsLeftOut self.new.outputs r.entries) }
         ensures fixed { self.old.is_fixed ≡ true → self.new.outputs ≡ self.old.outputs }
-        ensures full { IsErrOf result RowFault.TooManyOutputs → (self.old.is_fixed ≡ false) × (length self.new.outputs.matrices ≡ 65536) }
+        ensures full { IsErrOf result RowFault.TooManyOutputs → (self.old.is_fixed ≡ false)
+            × (length self.new.outputs.matrices ≡ 65536) }
         ensures fresh { IsErrOf result RowFault.NewOutput → self.old.is_fixed ≡ true }
         ensures memory { IsErrOf result RowFault.NoMemory → self.old.is_fixed ≡ false }
     {
@@ -256,19 +268,37 @@ impl<'m, 'b> Rows<'m, 'b> {
         requires rows { AreRows self.old }
         requires hedge { (x : Triple) → AreRowsOf x self.old → StandsForHedge x self.old h.now }
         requires tree { (x : Triple) → AreRowsOf x self.old → StandsForTree x self.old t.now }
-        requires room { (x : Triple) → AreRowsOf x self.old → IsRoomOf (hedge_layout x) out.old.room }
+        requires room { (x : Triple) → AreRowsOf x self.old
+            → IsRoomOf (hedge_layout x) out.old.room }
         ensures rows { (x : Triple) → AreRowsOf x self.old → AreRowsOf x self.new }
         ensures same { AreSameRows self.old self.new }
         ensures room { IsRoomBeside out.old.room out.new.room }
         ensures held { Extends self.old.outputs self.new.outputs }
-        ensures dead { IfOk result (λ b. b ≡ false → (self.new.outputs ≡ self.old.outputs) × ((x : Triple) → AreRowsOf x self.old → ¬ IsLiveAppend x (hedge_of x self.old h.now) (tree_of x self.old t.now))) }
-        ensures live { IfOk result (λ b. b ≡ true → (x : Triple) → AreRowsOf x self.old → IsLiveAppend x (hedge_of x self.old h.now) (tree_of x self.old t.now)) }
-        ensures row { IfOk result (λ b. b ≡ true → (x : Triple) → AreRowsOf x self.old → StandsForHedge x self.new out.new × IsAppend x (hedge_of x self.old h.now) (tree_of x self.old t.now) (hedge_of x self.new out.new)) }
-        ensures grows { IfOk result (λ b. b ≡ true → Grows self.old.outputs self.new.outputs (output_at out.new.room.flags out.new.room.numbers.items) out.new.room.entries) }
-        ensures err { OnErr result ((x : Triple) → AreRowsOf x self.old → IsLiveAppend x (hedge_of x self.old h.now) (tree_of x self.old t.now)) }
-        ensures partly { OnErr result ((x : Triple) (r : HedgeRow) → AreRowsOf x self.old → IsAppend x (hedge_of x self.old h.now) (tree_of x self.old t.now) r → GrowsBy self.old.outputs self.new.outputs r.entries × IsLeftOut self.new.outputs r.entries) }
+        ensures dead { IfOk result
+            (λ b. b ≡ false → (self.new.outputs ≡ self.old.outputs)
+            × ((x : Triple) → AreRowsOf x self.old
+            → ¬ IsLiveAppend x (hedge_of x self.old h.now) (tree_of x self.old t.now))) }
+        ensures live { IfOk result (λ b. b ≡ true → (x : Triple) → AreRowsOf x self.old
+            → IsLiveAppend x (hedge_of x self.old h.now) (tree_of x self.old t.now)) }
+        ensures row { IfOk result
+            (λ b. b ≡ true → (x : Triple) → AreRowsOf x self.old
+            → StandsForHedge x self.new out.new
+            × IsAppend x (hedge_of x self.old h.now) (tree_of x self.old t.now)
+            (hedge_of x self.new out.new)) }
+        ensures grows { IfOk result
+            (λ b. b ≡ true
+            → Grows self.old.outputs self.new.outputs
+            (output_at out.new.room.flags out.new.room.numbers.items) out.new.room.entries) }
+        ensures err { OnErr result ((x : Triple) → AreRowsOf x self.old
+            → IsLiveAppend x (hedge_of x self.old h.now) (tree_of x self.old t.now)) }
+        ensures partly { OnErr result
+            ((x : Triple) (r : HedgeRow) → AreRowsOf x self.old
+            → IsAppend x (hedge_of x self.old h.now) (tree_of x self.old t.now) r
+            → GrowsBy self.old.outputs self.new.outputs r.entries
+            × IsLeftOut self.new.outputs r.entries) }
         ensures fixed { self.old.is_fixed ≡ true → self.new.outputs ≡ self.old.outputs }
-        ensures full { IsErrOf result RowFault.TooManyOutputs → (self.old.is_fixed ≡ false) × (length self.new.outputs.matrices ≡ 65536) }
+        ensures full { IsErrOf result RowFault.TooManyOutputs → (self.old.is_fixed ≡ false)
+            × (length self.new.outputs.matrices ≡ 65536) }
         ensures fresh { IsErrOf result RowFault.NewOutput → self.old.is_fixed ≡ true }
         ensures memory { IsErrOf result RowFault.NoMemory → self.old.is_fixed ≡ false }
     {

@@ -38,7 +38,8 @@ pub(crate) fn template_of<'b>(rules: &Rules<'b>, mode: u32, found: Found) -> Tem
     requires found { IfSome (found_of found) (λ i. i < length (told rules.now).sheet.rules) }
     ensures part { IsPartTemplate (told rules.now).sheet result }
     ensures depth { depth_of result ≤ depth_of_sheet (told rules.now).sheet }
-    ensures meant { (x : Triple) (own : ℕ → CallFreeBody) (o : Option Chosen) → IsRulesIn x rules.now → option_map (λ w. w.number) o ≡ found_of found →
+    ensures meant { (x : Triple) (own : ℕ → CallFreeBody) (o : Option Chosen)
+        → IsRulesIn x rules.now → option_map (λ w. w.number) o ≡ found_of found →
         IsTemplate (sheet x).named own result (plain_of x.bodies (own mode) o) }
 {
     match found {
@@ -65,7 +66,9 @@ pub(crate) fn template_at<'b>(
         → AreKnown x.symbols x.rules known.old → AreKnown x.symbols x.rules known.new }
     ensures part { IsPartTemplate (told rules.now).sheet result }
     ensures depth { depth_of result ≤ depth_of_sheet (told rules.now).sheet }
-    ensures meant { (x : Triple) (g : Going) → IsRulesIn x rules.now → letters.IsLetter x.symbols (predicates x) (letter_of letter) → AreKnown x.symbols x.rules known.old → IsMoveAt x.rules state g
+    ensures meant { (x : Triple) (g : Going) → IsRulesIn x rules.now
+        → letters.IsLetter x.symbols (predicates x) (letter_of letter)
+        → AreKnown x.symbols x.rules known.old → IsMoveAt x.rules state g
         → IsMeantAt x g ancestor (letter_of letter) result }
 {
     match rules.mode_of(state) {
@@ -124,8 +127,10 @@ pub(crate) fn put_template(place: &Place<'_, '_>, template: Template<'_>, sets: 
     requires part { IsPartTemplate (told place.now.rules.now).sheet template }
     requires sets { IsOpenAt place.now (depth_of template) sets.old }
     ensures same { IsBeside place.now.output.now place.now.outputs.now sets.old sets.new }
-    ensures pairs { (x : Triple) (p : CallFreeBody) → IsPlaceIn x place.now → AreCalled x place.now → IsTemplate (sheet x).named (built_in_on (kind_of place.now.node)) template.entry p
-        → Extends sets.old.out sets.new.out (body_pairs x p (kind_of place.now.node) (below_of x place.now)) }
+    ensures pairs { (x : Triple) (p : CallFreeBody) → IsPlaceIn x place.now → AreCalled x place.now
+        → IsTemplate (sheet x).named (built_in_on (kind_of place.now.node)) template.entry p
+        → Extends sets.old.out sets.new.out
+        (body_pairs x p (kind_of place.now.node) (below_of x place.now)) }
 {
     match template {
         Template::Body(inner) => put_body(place, inner, sets),

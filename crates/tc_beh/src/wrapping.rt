@@ -56,7 +56,8 @@ fn put_node(
     ensures partly { OnErr result ((x : Triple)
         → AreGrounds x machine.now outputs.old work.old node.entry
         → ComesPartly x
-        (entries_by outputs.old.matrices node.entry.entries.now) node.entry outputs.old outputs.new) }
+        (entries_by outputs.old.matrices node.entry.entries.now) node.entry outputs.old
+        outputs.new) }
     ensures fixed { is_fixed ≡ true → outputs.new ≡ outputs.old }
     ensures full { IsErrOf result RowFault.TooManyOutputs → (is_fixed ≡ false)
         × (length outputs.new.matrices ≡ 65536) }

@@ -99,7 +99,8 @@ fn put_choice<'b>(
     last: &'b [Instr<'b>],
 ) -> Result<(), NoMemory>
     ensures { OnOk result ((rest : model.Body) → placed found.new.items rest
-        ≡ placed found.old.items (model.choose (see.branches branches.now (model.otherwise (see.body last.now))) rest)) }
+        ≡ placed found.old.items
+        (model.choose (see.branches branches.now (model.otherwise (see.body last.now))) rest)) }
 {
     found.push(Instr::Choose(branches, last))?;
     Ok(())
@@ -114,7 +115,8 @@ fn put_for_each<'b>(
     body: &'b [Instr<'b>],
 ) -> Result<(), NoMemory>
     ensures { OnOk result ((rest : model.Body) → placed found.new.items rest
-        ≡ placed found.old.items (model.for_each number (see.path path.now) (see.body body.now) rest)) }
+        ≡ placed found.old.items
+        (model.for_each number (see.path path.now) (see.body body.now) rest)) }
 {
     found.push(Instr::ForEach(number, *path, body))?;
     Ok(())

@@ -59,7 +59,8 @@ pub fn check<'b>(
 
     // The headline: unless memory is refused, it is yes exactly where no limit is passed and the stylesheet is safe, no exactly where none is
     // passed and it isn't by a document that can be shown, with a least one and its result; and else a limit that is passed.
-    ensures headline { (i o : Grammar) (s : Sheet) → Spells input.entry i → Spells output.entry o → IsSheetOf sheet.now s
+    ensures headline { (i o : Grammar) (s : Sheet) → Spells input.entry i → Spells output.entry o
+        → IsSheetOf sheet.now s
         → (result ≡ Err Failure.NoMemory) ⊎ DecidesSafety most i o s result }
 
     // The numbers of rows that are told, and the limit.

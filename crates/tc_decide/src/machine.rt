@@ -68,7 +68,8 @@ pub fn machine_of<'b>(
     requires sheet { IsSheet (see.sheet sheet.now) }
     ensures ok { IfOk result (λ m. (i o : g.Grammar) → IsReadOf i input.now → IsReadOf o output.now
         → IsMachineFor i o (see.sheet sheet.now) m) }
-    ensures err { IfErr result (λ e. (i o : g.Grammar) → IsReadOf i input.now → IsReadOf o output.now
+    ensures err { IfErr result
+        (λ e. (i o : g.Grammar) → IsReadOf i input.now → IsReadOf o output.now
         → IsCauseBy (PassesTripleLimit i o (see.sheet sheet.now)) e) }
 {
     let contents = input_automaton(alloc, input)?;
@@ -136,10 +137,12 @@ fn alphabet_of(
     output: &Schema<'_>,
     sheet: &Sheet<'_>,
 ) -> Result<Alphabet, LimitFault>
-    ensures stands { IfOk result (λ symbols. (i o : g.Grammar) → IsReadOf i input.now → IsReadOf o output.now
+    ensures stands { IfOk result
+        (λ symbols. (i o : g.Grammar) → IsReadOf i input.now → IsReadOf o output.now
         → symbols ≡ symbols_of i o (see.sheet sheet.now)) }
     ensures few { IfOk result (λ symbols. AreFew symbols) }
-    ensures err { IfErr result (λ e. (i o : g.Grammar) → IsReadOf i input.now → IsReadOf o output.now
+    ensures err { IfErr result
+        (λ e. (i o : g.Grammar) → IsReadOf i input.now → IsReadOf o output.now
         → IsWithinLimits i s.input MOST_INPUT_STATES → IsWithinLimits o s.output MOST_OUTPUT_STATES
         → IsCauseBy (PassesTripleLimit i o (see.sheet sheet.now)) e) }
 {
@@ -163,9 +166,11 @@ fn machine_over<'b>(
     requires sheet { IsSheet (see.sheet sheet.now) }
     requires automata { (i : g.Grammar) × (o : g.Grammar)
         × AreAutomata i o (see.sheet sheet.now) contents states alphabet }
-    ensures ok { IfOk result (λ m. (i o : g.Grammar) → AreAutomata i o (see.sheet sheet.now) contents.entry states.entry alphabet
+    ensures ok { IfOk result (λ m. (i o : g.Grammar)
+        → AreAutomata i o (see.sheet sheet.now) contents.entry states.entry alphabet
         → IsMachineFor i o (see.sheet sheet.now) m) }
-    ensures err { IfErr result (λ e. (i o : g.Grammar) → AreAutomata i o (see.sheet sheet.now) contents.entry states.entry alphabet
+    ensures err { IfErr result (λ e. (i o : g.Grammar)
+        → AreAutomata i o (see.sheet sheet.now) contents.entry states.entry alphabet
         → IsCauseBy (PassesTripleLimit i o (see.sheet sheet.now)) e) }
 {
     let inner = Hedge::of(alloc, contents, &alphabet)?;

@@ -52,7 +52,8 @@ fn put_arrows(arrows: &[Arrow], out: &mut Mat)
     requires matrix { IsMatrix out.old }
     ensures size { out.new.size ≡ out.old.size }
     ensures matrix { IsMatrix out.new }
-    ensures pairs { (i j : ℕ) → HasPair out.new i j ↔ (HasPair out.old i j ⊎ Contains arrows.now (record { from = i; to = j })) }
+    ensures pairs { (i j : ℕ) → HasPair out.new i j
+        ↔ (HasPair out.old i j ⊎ Contains arrows.now (record { from = i; to = j })) }
 {
     for arrow in arrows {
         out.set(arrow.from, arrow.to);
@@ -83,7 +84,11 @@ impl<'b> Hedge<'b> {
         requires { IsOfSomeSchema auto }
         ensures automaton { IfOk result (λ h. h.auto ≡ auto.entry) }
         ensures symbols { IfOk result (λ h. h.symbols ≡ symbol_count alphabet.now) }
-        ensures stands { IfOk result (λ h. (side : s.Side) (x : g.Grammar) → a.Stands side x auto.entry → (input output : g.Grammar) (sheet : sh.Sheet) → alphabet.now ≡ symbols_of input output sheet → (x ≡ input) ⊎ (x ≡ output) → Stands side x alphabet.now h) }
+        ensures stands { IfOk result
+            (λ h. (side : s.Side) (x : g.Grammar) → a.Stands side x auto.entry
+            → (input output : g.Grammar) (sheet : sh.Sheet) → alphabet.now
+            ≡ symbols_of input output sheet → (x ≡ input) ⊎ (x ≡ output)
+            → Stands side x alphabet.now h) }
     {
         let allowed = table_of(alloc, &auto, alphabet)?;
         let symbols = alphabet.count();
@@ -114,7 +119,10 @@ impl<'b> Hedge<'b> {
         requires from_one { 1 ≤ number }
         requires within { number ≤ a.patterns self.now.auto }
         requires symbol { sym.0 < self.now.symbols }
-        ensures { (side : s.Side) (x : g.Grammar) (symbols : List Mention) → Stands side x symbols self.now → (name : n.ExpandedName) → symbol_of symbols name ≡ sym.0 → (e : g.ElementPattern) → g.element_at x.elements number ≡ Some e → result ≡ g.in_class e.names name }
+        ensures { (side : s.Side) (x : g.Grammar) (symbols : List Mention)
+            → Stands side x symbols self.now → (name : n.ExpandedName) → symbol_of symbols name
+            ≡ sym.0 → (e : g.ElementPattern) → g.element_at x.elements number ≡ Some e → result
+            ≡ g.in_class e.names name }
     {
         let patterns = self.auto.patterns() as usize;
         let start = sym.0 as usize * patterns;
@@ -125,7 +133,9 @@ impl<'b> Hedge<'b> {
     fn is_taken(&self, inner: &Mat, number: u32) -> bool
         requires within { number ≤ a.patterns self.now.auto }
         requires size { inner.now.size ≡ a.states self.now.auto }
-        ensures { (side : s.Side) (x : g.Grammar) → a.Stands side x self.now.auto → (e : g.ElementPattern) → g.element_at x.elements number ≡ Some e → IsTrue result ↔ IsTaken x side inner.now number e }
+        ensures { (side : s.Side) (x : g.Grammar) → a.Stands side x self.now.auto
+            → (e : g.ElementPattern) → g.element_at x.elements number ≡ Some e → IsTrue result
+            ↔ IsTaken x side inner.now number e }
     {
         let first = self.auto.first(number);
         let end = self.auto.end(number);
@@ -140,7 +150,8 @@ impl<'b> Hedge<'b> {
     /// Whether an element pattern takes an element.
     fn is_taken_around(&self, allowed: &[bool], inner: &Mat, number: u32) -> bool
         requires { inner.now.size ≡ a.states self.now.auto }
-        ensures { (side : s.Side) (x : g.Grammar) → a.Stands side x self.now.auto → IsTrue result ↔ IsTakenAround x side allowed.now inner.now number }
+        ensures { (side : s.Side) (x : g.Grammar) → a.Stands side x self.now.auto → IsTrue result
+            ↔ IsTakenAround x side allowed.now inner.now number }
     {
         if number == 0 || number > self.auto.patterns() {
             return false;
@@ -155,7 +166,8 @@ impl<'b> Hedge<'b> {
         requires out { out.old.size ≡ a.states self.now.auto }
         ensures size { out.new.size ≡ out.old.size }
         ensures matrix { IsMatrix out.new }
-        ensures pairs { (side : s.Side) (x : g.Grammar) → a.Stands side x self.now.auto → (i j : ℕ) → HasPair out.new i j ↔ IsAround x side allowed.now inner.now i j }
+        ensures pairs { (side : s.Side) (x : g.Grammar) → a.Stands side x self.now.auto → (i j : ℕ)
+            → HasPair out.new i j ↔ IsAround x side allowed.now inner.now i j }
     {
         out.clear();
         for before in 0..self.auto.patterns() {
@@ -171,7 +183,8 @@ impl<'b> Hedge<'b> {
         requires { out.old.size ≡ a.states self.now.auto }
         ensures size { out.new.size ≡ out.old.size }
         ensures matrix { IsMatrix out.new }
-        ensures pairs { (side : s.Side) (x : g.Grammar) → a.Stands side x self.now.auto → ArePairsOfText x side out.new }
+        ensures pairs { (side : s.Side) (x : g.Grammar) → a.Stands side x self.now.auto
+            → ArePairsOfText x side out.new }
     {
         out.clear();
         put_arrows(self.auto.text_arrows(), out);
@@ -185,8 +198,13 @@ impl<'b> Hedge<'b> {
         requires out { out.old.size ≡ a.states self.now.auto }
         ensures size { out.new.size ≡ out.old.size }
         ensures matrix { IsMatrix out.new }
-        ensures pairs { (side : s.Side) (x : g.Grammar) (symbols : List Mention) → Stands side x symbols self.now → (name : n.ExpandedName) → symbol_of symbols name ≡ sym.0 → ArePairsAround x side name inner.now out.new }
-        ensures around { (side : s.Side) (x : g.Grammar) (symbols : List Mention) → Stands side x symbols self.now → (name : n.ExpandedName) → symbol_of symbols name ≡ sym.0 → (c : t.Trees) → ArePairsOf x side c inner.now → ArePairsOf x side (t.element name c t.none) out.new }
+        ensures pairs { (side : s.Side) (x : g.Grammar) (symbols : List Mention)
+            → Stands side x symbols self.now → (name : n.ExpandedName) → symbol_of symbols name
+            ≡ sym.0 → ArePairsAround x side name inner.now out.new }
+        ensures around { (side : s.Side) (x : g.Grammar) (symbols : List Mention)
+            → Stands side x symbols self.now → (name : n.ExpandedName) → symbol_of symbols name
+            ≡ sym.0 → (c : t.Trees) → ArePairsOf x side c inner.now
+            → ArePairsOf x side (t.element name c t.none) out.new }
     {
         let patterns = self.auto.patterns() as usize;
         let row = sym.0 as usize * patterns;
@@ -199,7 +217,9 @@ impl<'b> Hedge<'b> {
         requires { inner.now.size ≡ a.states self.now.auto }
         ensures size { IfOk result (λ m. m.size ≡ a.states self.now.auto) }
         ensures matrix { IfOk result (λ m. IsMatrix m) }
-        ensures pairs { IfOk result (λ m. (side : s.Side) (x : g.Grammar) → a.Stands side x self.now.auto → ArePairsAround x side (see.name name.now) inner.now m) }
+        ensures pairs { IfOk result
+            (λ m. (side : s.Side) (x : g.Grammar) → a.Stands side x self.now.auto
+            → ArePairsAround x side (see.name name.now) inner.now m) }
     {
         let mut allowed = Vec::new(self.alloc);
         push_allowed(&mut allowed, &self.auto, name)?;
@@ -212,7 +232,8 @@ impl<'b> Hedge<'b> {
     fn matrix_of_text(&self, text: &str) -> Result<Mat, NoMemory>
         ensures size { IfOk result (λ m. m.size ≡ a.states self.now.auto) }
         ensures matrix { IfOk result (λ m. IsMatrix m) }
-        ensures pairs { IfOk result (λ m. (side : s.Side) (x : g.Grammar) → a.Stands side x self.now.auto → ArePairsOf x side (t.text text.now t.none) m) }
+        ensures pairs { IfOk result (λ m. (side : s.Side) (x : g.Grammar)
+            → a.Stands side x self.now.auto → ArePairsOf x side (t.text text.now t.none) m) }
     {
         let states = self.auto.states();
         if is_white_space_only(text) {
@@ -228,7 +249,8 @@ impl<'b> Hedge<'b> {
     fn matrix_of_tree(&self, node: &Node<'_>) -> Result<Mat, NoMemory>
         ensures size { IfOk result (λ m. m.size ≡ a.states self.now.auto) }
         ensures matrix { IfOk result (λ m. IsMatrix m) }
-        ensures pairs { IfOk result (λ m. (side : s.Side) (x : g.Grammar) → a.Stands side x self.now.auto → ArePairsOf x side (see.before node.now t.none) m) }
+        ensures pairs { IfOk result (λ m. (side : s.Side) (x : g.Grammar)
+            → a.Stands side x self.now.auto → ArePairsOf x side (see.before node.now t.none) m) }
     {
         match node {
             Node::Text(text) => self.matrix_of_text(text),
@@ -249,8 +271,12 @@ impl<'b> Hedge<'b> {
     pub fn matrix_of(&self, nodes: &[Node<'_>]) -> Result<Mat, NoMemory>
         ensures size { IfOk result (λ m. m.size ≡ a.states self.now.auto) }
         ensures matrix { IfOk result (λ m. IsMatrix m) }
-        ensures pairs { IfOk result (λ m. (side : s.Side) (x : g.Grammar) → a.Stands side x self.now.auto → ArePairsOf x side (see.trees nodes.now) m) }
-        ensures output { IfOk result (λ m. (x : g.Grammar) → a.Stands s.output x self.now.auto → IsValidOutput x (see.trees nodes.now) ↔ ((j : ℕ) × HasPair m 0 j × (s.automaton x.start).accepting j)) }
+        ensures pairs { IfOk result (λ m. (side : s.Side) (x : g.Grammar)
+            → a.Stands side x self.now.auto → ArePairsOf x side (see.trees nodes.now) m) }
+        ensures output { IfOk result
+            (λ m. (x : g.Grammar) → a.Stands s.output x self.now.auto
+            → IsValidOutput x (see.trees nodes.now)
+            ↔ ((j : ℕ) × HasPair m 0 j × (s.automaton x.start).accepting j)) }
     {
         let mut led = Mat::identity(self.alloc, self.auto.states())?;
         for node in nodes {

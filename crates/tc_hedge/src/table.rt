@@ -21,8 +21,11 @@ pub(crate) fn push_allowed(
     automaton: &Auto<'_>,
     name: &Name<'_>,
 ) -> Result<(), NoMemory>
-    ensures counted { OnOk result (length allowed.new.items ≡ length allowed.old.items + a.patterns automaton.now) }
-    ensures told { OnOk result ((side : s.Side) (x : g.Grammar) → a.Stands side x automaton.now → allowed.new.items ≡ allowed.old.items ++ map (λ e. in_class e.names (see.name name.now)) x.elements) }
+    ensures counted { OnOk result
+        (length allowed.new.items ≡ length allowed.old.items + a.patterns automaton.now) }
+    ensures told { OnOk result
+        ((side : s.Side) (x : g.Grammar) → a.Stands side x automaton.now → allowed.new.items
+        ≡ allowed.old.items ++ map (λ e. in_class e.names (see.name name.now)) x.elements) }
 {
     for before in 0..automaton.patterns() {
         let is_allowed = automaton.allows(before + 1, name);
@@ -37,8 +40,11 @@ pub(crate) fn table_of(
     automaton: &Auto<'_>,
     alphabet: &Alphabet,
 ) -> Result<Vec<bool>, NoMemory>
-    ensures counted { IfOk result (λ v. length v.items ≡ symbol_count alphabet.now * a.patterns automaton.now) }
-    ensures told { IfOk result (λ v. (side : s.Side) (x : g.Grammar) → a.Stands side x automaton.now → v.items ≡ class_table x alphabet.now (symbol_count alphabet.now)) }
+    ensures counted { IfOk result
+        (λ v. length v.items ≡ symbol_count alphabet.now * a.patterns automaton.now) }
+    ensures told { IfOk result
+        (λ v. (side : s.Side) (x : g.Grammar) → a.Stands side x automaton.now → v.items
+        ≡ class_table x alphabet.now (symbol_count alphabet.now)) }
 {
     let arena = Bump::new(alloc);
     let mut allowed = Vec::new(alloc);

@@ -41,8 +41,10 @@ pub fn read_schema<'b>(arena: &'b Bump, text: &[u8]) -> Result<Schema<'b>, TextF
 
 /// What a syntax tree is that has no grammar, or one that is too large.
 fn of_fault<'b>(fault: SimpleFault) -> Result<Schema<'b>, TextFault>
-    ensures ok { IfOk result (λ schema. (bytes : List ℕ) (s : t.Syntax) → CompactSyntax bytes s → simple.Refuses s fault → IsSchemaOf bytes schema) }
-    ensures no { IfErr result (λ e. (bytes : List ℕ) (s : t.Syntax) → CompactSyntax bytes s → simple.Refuses s fault → IsUnaccepted (IsRefusedSchema bytes) e) }
+    ensures ok { IfOk result (λ schema. (bytes : List ℕ) (s : t.Syntax) → CompactSyntax bytes s
+        → simple.Refuses s fault → IsSchemaOf bytes schema) }
+    ensures no { IfErr result (λ e. (bytes : List ℕ) (s : t.Syntax) → CompactSyntax bytes s
+        → simple.Refuses s fault → IsUnaccepted (IsRefusedSchema bytes) e) }
 {
     match fault {
         SimpleFault::Twice(place) => Err(TextFault::Refused(Reason::Twice, place)),

@@ -31,13 +31,18 @@ pub fn read_sheet<'b>(arena: &'b Bump, text: &[u8]) -> Result<Sheet<'b>, TextFau
     ensures no { IfErr result (IsUnaccepted (IsRefusedSheet text.now)) }
 
     // What an XML text is refused for whose tree is a stylesheet but for one thing.
-    ensures unsupported { (raw changed : RawTrees) (s : sheets.Sheet) → XmlText text.now raw → Changed mended raw changed → SheetText changed s
+    ensures unsupported { (raw changed : RawTrees) (s : sheets.Sheet) → XmlText text.now raw
+        → Changed mended raw changed → SheetText changed s
         → IfErr result (IsOfTree IsUnsupported) }
-    ensures deep { (raw changed : RawTrees) (s : sheets.Sheet) → XmlText text.now raw → Changed flattened raw changed → SheetText changed s
+    ensures deep { (raw changed : RawTrees) (s : sheets.Sheet) → XmlText text.now raw
+        → Changed flattened raw changed → SheetText changed s
         → IfErr result (IsOfTree IsTooDeep) }
-    ensures no_template { (raw : RawTrees) (p : ℕ) → XmlText text.now raw → SheetFails raw undefined p → IfErr result (IsOfTree (IsUndefinedAt p)) }
-    ensures loops { (raw : RawTrees) (p : ℕ) → XmlText text.now raw → SheetFails raw call_loop p → IfErr result (IsOfTree (IsLoopAt p)) }
-    ensures again { (raw : RawTrees) (p : ℕ) → XmlText text.now raw → NamesAgain raw p → IfErr result (IsOfTree (IsMalformedAt p)) }
+    ensures no_template { (raw : RawTrees) (p : ℕ) → XmlText text.now raw
+        → SheetFails raw undefined p → IfErr result (IsOfTree (IsUndefinedAt p)) }
+    ensures loops { (raw : RawTrees) (p : ℕ) → XmlText text.now raw → SheetFails raw call_loop p
+        → IfErr result (IsOfTree (IsLoopAt p)) }
+    ensures again { (raw : RawTrees) (p : ℕ) → XmlText text.now raw → NamesAgain raw p
+        → IfErr result (IsOfTree (IsMalformedAt p)) }
 {
     let raw = read_raw(arena, text)?;
     let sheet = tc_sheet::read_sheet(arena, &raw)?;

@@ -359,7 +359,8 @@ impl Graph {
     /// The steps whose predicates are in a set.
     fn marked(&self, marks: u32) -> Option<&Row>
         ensures { option_map (λ r. seen.state self.now.letters.ends.items r.now) result
-            ≡ slice_get (seen.states self.now.letters.ends.items self.now.letters.marked.items) marks }
+            ≡ slice_get
+            (seen.states self.now.letters.ends.items self.now.letters.marked.items) marks }
     {
         self.letters.marked.get(marks as usize)
     }

@@ -57,7 +57,8 @@ impl KnownRules {
     ///
     /// There is no memory for what will be remembered, where the tables of the rules lie.
     pub fn new(rules: &Rules<'_>) -> Result<KnownRules, NoMemory>
-        ensures { IfOk result (λ k. (symbols : List Mention) (v : RulesView) → AreKnown symbols v k) }
+        ensures { IfOk result
+            (λ k. (symbols : List Mention) (v : RulesView) → AreKnown symbols v k) }
     {
         let alloc = *rules.modes.allocator();
         let places = vec![in alloc; None; REMEMBERED]?;
@@ -66,7 +67,8 @@ impl KnownRules {
 
     /// The rule in a mode of a node of a letter, the ancestor state of the node above it being given, if it is remembered.
     fn remembered(&self, mode: u32, ancestor: u32, kind: Kind, marks: Marks) -> Option<Found>
-        ensures { (symbols : List Mention) (v : RulesView) → AreKnown symbols v self.now → IfSome result (λ f. IsFound symbols v mode ancestor kind marks f) }
+        ensures { (symbols : List Mention) (v : RulesView) → AreKnown symbols v self.now
+            → IfSome result (λ f. IsFound symbols v mode ancestor kind marks f) }
     {
         let place = place_of(mode, ancestor, kind, marks);
         if place >= self.places.len() {
@@ -86,7 +88,8 @@ impl KnownRules {
 
     /// Remembers the rule that was found.
     fn remember(&mut self, mode: u32, ancestor: u32, kind: Kind, marks: Marks, found: Found)
-        ensures { (symbols : List Mention) (v : RulesView) → AreKnown symbols v self.old → IsFound symbols v mode ancestor kind marks found → AreKnown symbols v self.new }
+        ensures { (symbols : List Mention) (v : RulesView) → AreKnown symbols v self.old
+            → IsFound symbols v mode ancestor kind marks found → AreKnown symbols v self.new }
     {
         let place = place_of(mode, ancestor, kind, marks);
         if place >= self.places.len() {
@@ -112,8 +115,12 @@ impl KnownRules {
     ) -> Found
         requires mode { mode < (told rules.now).sheet.modes }
         requires state { ancestor < length (told rules.now).ancestors.states }
-        ensures known { (symbols : List Mention) → IsRulesOf symbols rules.now → AreKnown symbols (told rules.now) self.old → AreKnown symbols (told rules.now) self.new }
-        ensures rule { (symbols : List Mention) → IsRulesOf symbols rules.now → AreKnown symbols (told rules.now) self.old → IsFound symbols (told rules.now) mode ancestor kind marks result }
+        ensures known { (symbols : List Mention) → IsRulesOf symbols rules.now
+            → AreKnown symbols (told rules.now) self.old
+            → AreKnown symbols (told rules.now) self.new }
+        ensures rule { (symbols : List Mention) → IsRulesOf symbols rules.now
+            → AreKnown symbols (told rules.now) self.old
+            → IsFound symbols (told rules.now) mode ancestor kind marks result }
     {
         if let Some(found) = self.remembered(mode, ancestor, kind, marks) {
             return found;

@@ -146,13 +146,18 @@ impl<'b> Rules<'b> {
     ) -> Result<Rules<'b>, RulesFault>
         requires sheet { IsSheet (see.sheet sheet.now) }
         requires used { usages used.now ≡ usages_of (see.sheet sheet.now) }
-        requires predicates { predicates source.predicates.items ≡ n.predicates_of (see.sheet sheet.now) }
+        requires predicates { predicates source.predicates.items
+            ≡ n.predicates_of (see.sheet sheet.now) }
         requires few { length source.predicates.items ≤ 6 }
         requires sets { source.sets ≡ 2 ^ length source.predicates.items }
         ensures sheet { IfOk result (λ r. (told r).sheet ≡ see.sheet sheet.now) }
-        ensures rules { (symbols : List Mention) → IsSourceOf symbols source.entry → AreSymbolsWith symbols (see.sheet sheet.now) → IfOk result (λ r. IsRulesOf symbols r) }
-        ensures within { (symbols : List Mention) → IsSourceOf symbols source.entry → OnOk result (PassNone symbols (see.sheet sheet.now)) }
-        ensures cause { (symbols : List Mention) → IsSourceOf symbols source.entry → IfErr result (λ e. IsCause symbols (see.sheet sheet.now) e) }
+        ensures rules { (symbols : List Mention) → IsSourceOf symbols source.entry
+            → AreSymbolsWith symbols (see.sheet sheet.now)
+            → IfOk result (λ r. IsRulesOf symbols r) }
+        ensures within { (symbols : List Mention) → IsSourceOf symbols source.entry
+            → OnOk result (PassNone symbols (see.sheet sheet.now)) }
+        ensures cause { (symbols : List Mention) → IsSourceOf symbols source.entry
+            → IfErr result (λ e. IsCause symbols (see.sheet sheet.now) e) }
     {
         let above = ancestors_of(&source, sheet)?;
         let asked = asked_of(source.alloc, sheet, used, &source.predicates)?;
@@ -180,22 +185,27 @@ impl<'b> Rules<'b> {
 
     /// How many ancestor states there are. State 0 is that above the document.
     pub fn ancestors(&self) -> u32
-        ensures count { (symbols : List Mention) → IsRulesOf symbols self.now → result ≡ length (told self.now).ancestors.states }
-        ensures first { (symbols : List Mention) → IsRulesOf symbols self.now → slice_get (told self.now).ancestors.states 0 ≡ Some (first_state (path_of_rules (told self.now).sheet.rules)) }
+        ensures count { (symbols : List Mention) → IsRulesOf symbols self.now → result
+            ≡ length (told self.now).ancestors.states }
+        ensures first { (symbols : List Mention) → IsRulesOf symbols self.now
+            → slice_get (told self.now).ancestors.states 0
+            ≡ Some (first_state (path_of_rules (told self.now).sheet.rules)) }
     {
         self.above.len()
     }
 
     /// How many select states there are of moves.
     pub fn moves(&self) -> u32
-        ensures { (symbols : List Mention) → IsRulesOf symbols self.now → result ≡ move_count (told self.now) }
+        ensures { (symbols : List Mention) → IsRulesOf symbols self.now → result
+            ≡ move_count (told self.now) }
     {
         self.start(self.moves.len())
     }
 
     /// How many select states there are of looks.
     pub fn looks(&self) -> u32
-        ensures { (symbols : List Mention) → IsRulesOf symbols self.now → result + move_count (told self.now) ≡ select_count (told self.now) }
+        ensures { (symbols : List Mention) → IsRulesOf symbols self.now
+            → result + move_count (told self.now) ≡ select_count (told self.now) }
     {
         let all = self.start(self.graphs.len());
         all.saturating_sub(self.moves())
@@ -203,7 +213,8 @@ impl<'b> Rules<'b> {
 
     /// How many predicates there are.
     pub fn predicates(&self) -> u32
-        ensures { (symbols : List Mention) → IsRulesOf symbols self.now → result ≡ length (n.predicates_of (told self.now).sheet) }
+        ensures { (symbols : List Mention) → IsRulesOf symbols self.now → result
+            ≡ length (n.predicates_of (told self.now).sheet) }
     {
         as_u32(self.predicates.len())
     }
@@ -211,7 +222,8 @@ impl<'b> Rules<'b> {
     /// The predicate of a number.
     pub fn predicate(&self, i: u32) -> &'b Test<'b>
         requires { i < length (told self.now).predicates }
-        ensures { (symbols : List Mention) → IsRulesOf symbols self.now → slice_get (n.predicates_of (told self.now).sheet) i ≡ Some (see.test result.now) }
+        ensures { (symbols : List Mention) → IsRulesOf symbols self.now
+            → slice_get (n.predicates_of (told self.now).sheet) i ≡ Some (see.test result.now) }
     {
         self.predicates[i as usize]
     }
@@ -219,7 +231,9 @@ impl<'b> Rules<'b> {
     /// The rule of the root in a mode (XSLT 1.0, 5.5).
     pub fn root_rule(&self, mode: u32) -> Found
         requires { mode < (told self.now).sheet.modes }
-        ensures { (symbols : List Mention) → IsRulesOf symbols self.now → IsRuleOf (told self.now).sheet.rules mode (λ i r. paths.fits r.pattern (top none)) (found result) }
+        ensures { (symbols : List Mention) → IsRulesOf symbols self.now
+            → IsRuleOf (told self.now).sheet.rules mode (λ i r. paths.fits r.pattern (top none))
+            (found result) }
     {
         let mut best = Found::BuiltIn;
         for number in self.rules_of(mode) {
@@ -233,7 +247,11 @@ impl<'b> Rules<'b> {
     pub fn rule_for(&self, mode: u32, anc: u32, kind: Kind, marks: Marks) -> Found
         requires mode { mode < (told self.now).sheet.modes }
         requires state { anc < length (told self.now).ancestors.states }
-        ensures { (symbols : List Mention) → IsRulesOf symbols self.now → l.IsLetter symbols (n.predicates_of (told self.now).sheet) (letter kind marks) → IsRuleOf (told self.now).sheet.rules mode (fits_below symbols (n.predicates_of (told self.now).sheet) (ancestor (told self.now) anc) (letter kind marks)) (found result) }
+        ensures { (symbols : List Mention) → IsRulesOf symbols self.now
+            → l.IsLetter symbols (n.predicates_of (told self.now).sheet) (letter kind marks)
+            → IsRuleOf (told self.now).sheet.rules mode
+            (fits_below symbols (n.predicates_of (told self.now).sheet)
+            (ancestor (told self.now) anc) (letter kind marks)) (found result) }
     {
         let symbol = symbol_of(kind);
         let mut best = Found::BuiltIn;
@@ -247,7 +265,10 @@ impl<'b> Rules<'b> {
     /// The ancestor state one element further down.
     pub fn anc_step(&self, anc: u32, sym: Sym, marks: Marks) -> u32
         requires { anc < length (told self.now).ancestors.states }
-        ensures { (symbols : List Mention) → IsRulesOf symbols self.now → l.IsLetter symbols (n.predicates_of (told self.now).sheet) (letter (Kind.Elem sym) marks) → slice_get (told self.now).ancestors.states result ≡ Some (ancestor_below symbols (told self.now) anc (letter (Kind.Elem sym) marks)) }
+        ensures { (symbols : List Mention) → IsRulesOf symbols self.now
+            → l.IsLetter symbols (n.predicates_of (told self.now).sheet)
+            (letter (Kind.Elem sym) marks) → slice_get (told self.now).ancestors.states result
+            ≡ Some (ancestor_below symbols (told self.now) anc (letter (Kind.Elem sym) marks)) }
     {
         match self.above.step(anc, sym.0, marks.0) {
             Some(number) => number,
@@ -258,7 +279,14 @@ impl<'b> Rules<'b> {
     /// The select state one element further down, of the same path. There is none where no hit comes any more.
     pub fn sel_step(&self, sel: u32, sym: Sym, marks: Marks) -> Option<u32>
         requires { sel < select_count (told self.now) }
-        ensures { (symbols : List Mention) (b : PathUse) (x : State) → IsRulesOf symbols self.now → l.IsLetter symbols (n.predicates_of (told self.now).sheet) (letter (Kind.Elem sym) marks) → IsStateOf (told self.now) sel b x → MatchOption result (is_empty_state (select_below symbols (told self.now) b x (letter (Kind.Elem sym) marks)) ≡ true) (λ k. IsStateOf (told self.now) k b (select_below symbols (told self.now) b x (letter (Kind.Elem sym) marks))) }
+        ensures { (symbols : List Mention) (b : PathUse) (x : State) → IsRulesOf symbols self.now
+            → l.IsLetter symbols (n.predicates_of (told self.now).sheet)
+            (letter (Kind.Elem sym) marks) → IsStateOf (told self.now) sel b x
+            → MatchOption result
+            (is_empty_state
+            (select_below symbols (told self.now) b x (letter (Kind.Elem sym) marks)) ≡ true)
+            (λ k. IsStateOf (told self.now) k b
+            (select_below symbols (told self.now) b x (letter (Kind.Elem sym) marks))) }
     {
         let Some(select) = self.select(sel) else {
             return None;
@@ -277,7 +305,10 @@ impl<'b> Rules<'b> {
     /// Whether a node of a letter is a hit of a select state, which is that of the node above it.
     pub fn sel_hits(&self, sel: u32, kind: Kind, marks: Marks) -> bool
         requires { sel < select_count (told self.now) }
-        ensures { (symbols : List Mention) (b : PathUse) (x : State) → IsRulesOf symbols self.now → l.IsLetter symbols (n.predicates_of (told self.now).sheet) (letter kind marks) → IsStateOf (told self.now) sel b x → result ≡ is_hit_of symbols (told self.now) b x (letter kind marks) }
+        ensures { (symbols : List Mention) (b : PathUse) (x : State) → IsRulesOf symbols self.now
+            → l.IsLetter symbols (n.predicates_of (told self.now).sheet) (letter kind marks)
+            → IsStateOf (told self.now) sel b x → result
+            ≡ is_hit_of symbols (told self.now) b x (letter kind marks) }
     {
         let Some(select) = self.select(sel) else {
             return false;
@@ -291,8 +322,14 @@ impl<'b> Rules<'b> {
 
     /// The first state of a move of the stylesheet. There is none where the path has no alternative.
     pub fn move_first(&self, path: &Path<'_>, job: Job) -> Option<u32>
-        requires { Contains (n.moves_of (told self.now).sheet) (record { path = see.path path.now; mode = mode_of (told self.now).sheet.modes job }) }
-        ensures { (symbols : List Mention) → IsRulesOf symbols self.now → MatchOption result (see.path path.now ≡ s.no_alternative) (λ k. IsStateOf (told self.now) k (record { path = see.path path.now; mode = Some (mode_of (told self.now).sheet.modes job) }) (first_state (see.path path.now))) }
+        requires { Contains (n.moves_of (told self.now).sheet)
+            (record { path = see.path path.now; mode = mode_of (told self.now).sheet.modes job }) }
+        ensures { (symbols : List Mention) → IsRulesOf symbols self.now
+            → MatchOption result (see.path path.now ≡ s.no_alternative)
+            (λ k. IsStateOf (told self.now) k
+            (record
+            { path = see.path path.now; mode = Some (mode_of (told self.now).sheet.modes job) })
+            (first_state (see.path path.now))) }
     {
         let number = number_of_move(self.sheet.modes, &self.moves, &Move { path, job });
         self.first_of(number)
@@ -301,7 +338,10 @@ impl<'b> Rules<'b> {
     /// The first state of a look of the stylesheet. There is none where the path has no alternative.
     pub fn look_first(&self, path: &Path<'_>) -> Option<u32>
         requires { Contains (n.looks_of (told self.now).sheet) (see.path path.now) }
-        ensures { (symbols : List Mention) → IsRulesOf symbols self.now → MatchOption result (see.path path.now ≡ s.no_alternative) (λ k. IsStateOf (told self.now) k (record { path = see.path path.now; mode = None }) (first_state (see.path path.now))) }
+        ensures { (symbols : List Mention) → IsRulesOf symbols self.now
+            → MatchOption result (see.path path.now ≡ s.no_alternative)
+            (λ k. IsStateOf (told self.now) k (record { path = see.path path.now; mode = None })
+            (first_state (see.path path.now))) }
     {
         let number = self.moves.len() + number_of_path(&self.looks, path);
         self.first_of(number)
@@ -310,8 +350,12 @@ impl<'b> Rules<'b> {
     /// What is done on the nodes that a move selects, by a state of it.
     pub fn mode_of(&self, sel: u32) -> Job
         requires { sel < move_count (told self.now) }
-        ensures mode { (symbols : List Mention) (b : PathUse) (x : State) → IsRulesOf symbols self.now → IsStateOf (told self.now) sel b x → b.mode ≡ Some (mode_of (told self.now).sheet.modes result) }
-        ensures job { (symbols : List Mention) (b : PathUse) (x : State) → IsRulesOf symbols self.now → IsStateOf (told self.now) sel b x → IsJob (told self.now).sheet result }
+        ensures mode { (symbols : List Mention) (b : PathUse) (x : State)
+            → IsRulesOf symbols self.now → IsStateOf (told self.now) sel b x → b.mode
+            ≡ Some (mode_of (told self.now).sheet.modes result) }
+        ensures job { (symbols : List Mention) (b : PathUse) (x : State)
+            → IsRulesOf symbols self.now → IsStateOf (told self.now) sel b x
+            → IsJob (told self.now).sheet result }
     {
         let Some(select) = self.select(sel) else {
             return Job::Mode(0);
@@ -325,7 +369,9 @@ impl<'b> Rules<'b> {
     /// The body of a for-each.
     pub fn each_body(&self, each: u32) -> &'b [Instr<'b>]
         requires { each < length (told self.now).eaches }
-        ensures { (symbols : List Mention) (f : ForEach) → IsRulesOf symbols self.now → Contains (eaches_of (told self.now).sheet) f → f.number ≡ each → f.body ≡ see.body result.now }
+        ensures { (symbols : List Mention) (f : ForEach) → IsRulesOf symbols self.now
+            → Contains (eaches_of (told self.now).sheet) f → f.number ≡ each → f.body
+            ≡ see.body result.now }
     {
         self.eaches[each as usize]
     }
@@ -342,7 +388,8 @@ impl<'b> Rules<'b> {
 
     /// The rule of a number.
     fn rule(&self, number: u32) -> Option<&Rule<'b>>
-        ensures { slice_get (told self.now).sheet.rules number ≡ option_map (λ r. see.rule r.now) result }
+        ensures { slice_get (told self.now).sheet.rules number
+            ≡ option_map (λ r. see.rule r.now) result }
     {
         self.sheet.rules.get(number as usize)
     }
@@ -359,7 +406,8 @@ impl<'b> Rules<'b> {
 
     /// Whether the first of two rules has the greater priority.
     fn outranks(&self, number: u32, other: u32) -> bool
-        ensures { result ≡ outranks (slice_get (told self.now).sheet.rules number) (slice_get (told self.now).sheet.rules other) }
+        ensures { result ≡ outranks (slice_get (told self.now).sheet.rules number)
+            (slice_get (told self.now).sheet.rules other) }
     {
         let Some(rule) = self.rule(number) else {
             return false;
@@ -385,7 +433,9 @@ impl<'b> Rules<'b> {
 
     /// The best rule so far, once one more is looked at.
     fn better_if(&self, fits: bool, best: Found, number: u32) -> Found
-        ensures { found result ≡ (if fits then better (told self.now).sheet.rules (found best) number else found best) }
+        ensures { found result
+            ≡ (if fits then better (told self.now).sheet.rules
+            (found best) number else found best) }
     {
         if fits {
             return self.better(best, number);
@@ -456,9 +506,11 @@ fn source_of<'a, 'b>(
     used: &[Usage<'b>],
 ) -> Result<Source<'a, 'b>, RulesFault>
     ensures source { IfOk result (λ y. IsSourceOf alphabet.now y) }
-    ensures predicates { IfOk result (λ y. (x : s.Sheet) → usages used.now ≡ usages_of x → predicates y.predicates.items ≡ n.predicates_of x) }
+    ensures predicates { IfOk result (λ y. (x : s.Sheet) → usages used.now ≡ usages_of x
+        → predicates y.predicates.items ≡ n.predicates_of x) }
     ensures few { IfOk result (λ y. length y.predicates.items ≤ 6) }
-    ensures cause { IfErr result (λ e. (x : s.Sheet) → usages used.now ≡ usages_of x → IsCause alphabet.now x e) }
+    ensures cause { IfErr result
+        (λ e. (x : s.Sheet) → usages used.now ≡ usages_of x → IsCause alphabet.now x e) }
 {
     let predicates = all_predicates(alloc, used)?;
     let names = names_of(alloc, arena, alphabet)?;
@@ -489,13 +541,17 @@ fn asked_of<'b>(
     requires sheet { IsSheet (see.sheet sheet.now) }
     requires used { usages used.now ≡ usages_of (see.sheet sheet.now) }
     requires numbered { predicates numbered.now ≡ n.predicates_of (see.sheet sheet.now) }
-    ensures moves { IfOk result (λ a. see_moves sheet.now.modes a.moves.items ≡ n.moves_of (see.sheet sheet.now)) }
+    ensures moves { IfOk result
+        (λ a. see_moves sheet.now.modes a.moves.items ≡ n.moves_of (see.sheet sheet.now)) }
     ensures jobs { IfOk result (λ a. AreJobs (see.sheet sheet.now) a.moves.items) }
     ensures looks { IfOk result (λ a. see_paths a.looks.items ≡ n.looks_of (see.sheet sheet.now)) }
     ensures eaches { IfOk result (λ a. length a.eaches.items ≡ sheet.now.eaches) }
-    ensures bodies { IfOk result (λ a. (f : ForEach) → Contains (eaches_of (see.sheet sheet.now)) f → slice_get (see_bodies a.eaches.items) f.number ≡ Some f.body) }
+    ensures bodies { IfOk result (λ a. (f : ForEach) → Contains (eaches_of (see.sheet sheet.now)) f
+        → slice_get (see_bodies a.eaches.items) f.number ≡ Some f.body) }
     ensures modes { IfOk result (λ a. length a.modes.items ≡ sheet.now.modes) }
-    ensures numbers { IfOk result (λ a. (m : ℕ) → m < sheet.now.modes → get_or (numbers a.modes.items) m [] ≡ numbers_in_mode m 0 (map see.rule sheet.now.rules.now)) }
+    ensures numbers { IfOk result
+        (λ a. (m : ℕ) → m < sheet.now.modes → get_or (numbers a.modes.items) m []
+        ≡ numbers_in_mode m 0 (map see.rule sheet.now.rules.now)) }
     ensures cause { IfErr result (λ e. IsPathsCause (paths_of (see.sheet sheet.now)) e) }
 {
     let moves = all_moves(alloc, sheet, used, numbered)?;
@@ -524,12 +580,19 @@ fn selected_of(
     looks: &[&Path<'_>],
 ) -> Result<Selected, RulesFault>
     requires { source.now.sets ≡ 2 ^ length source.now.predicates.items }
-    ensures graphs { IfOk result (λ t. (symbols : List Mention) → IsSourceOf symbols source.now → AreGraphs symbols (predicates source.now.predicates.items) (map (λ m. see.path m.path.now) moves.now ++ see_paths looks.now) (see_graphs t.graphs.items)) }
+    ensures graphs { IfOk result
+        (λ t. (symbols : List Mention) → IsSourceOf symbols source.now
+        → AreGraphs symbols (predicates source.now.predicates.items)
+        (map (λ m. see.path m.path.now) moves.now ++ see_paths looks.now)
+        (see_graphs t.graphs.items)) }
     ensures few { IfOk result (λ t. count_states (see_graphs t.graphs.items) ≤ 4096) }
     ensures ending { IfOk result (λ t. AllKeepEndings t.graphs.items) }
-    ensures selects { IfOk result (λ t. t.selects.items ≡ selects_from 0 (see_graphs t.graphs.items)) }
+    ensures selects { IfOk result
+        (λ t. t.selects.items ≡ selects_from 0 (see_graphs t.graphs.items)) }
     ensures starts { IfOk result (λ t. t.starts.items ≡ starts_from 0 (see_graphs t.graphs.items)) }
-    ensures cause { IfErr result (λ e. IsSelectCause source.now (map (λ m. see.path m.path.now) moves.now ++ see_paths looks.now) e) }
+    ensures cause { IfErr result
+        (λ e. IsSelectCause source.now
+        (map (λ m. see.path m.path.now) moves.now ++ see_paths looks.now) e) }
 {
     let graphs = select_graphs(source, moves, looks)?;
     let selects = selects_of(source.alloc, &graphs)?;
@@ -552,9 +615,13 @@ fn sets_of(predicates: usize) -> u32
 /// The ancestor states: those of all rules' patterns together.
 fn ancestors_of(source: &Source<'_, '_>, sheet: &Sheet<'_>) -> Result<Graph, RulesFault>
     requires { source.now.sets ≡ 2 ^ length source.now.predicates.items }
-    ensures graph { IfOk result (λ g. (symbols : List Mention) → IsSourceOf symbols source.now → IsGraphOf symbols (predicates source.now.predicates.items) all_count (path_of_rules (see.sheet sheet.now).rules) (see_graph g)) }
+    ensures graph { IfOk result
+        (λ g. (symbols : List Mention) → IsSourceOf symbols source.now
+        → IsGraphOf symbols (predicates source.now.predicates.items) all_count
+        (path_of_rules (see.sheet sheet.now).rules) (see_graph g)) }
     ensures few { IfOk result (λ g. length (see_graph g).states ≤ 64) }
-    ensures cause { IfErr result (λ e. IsAncestorCause source.now (path_of_rules (see.sheet sheet.now).rules) e) }
+    ensures cause { IfErr result
+        (λ e. IsAncestorCause source.now (path_of_rules (see.sheet sheet.now).rules) e) }
 {
     let path = paths_of_rules(source.alloc, sheet)?;
     match source.graph(&path, Counts::All, MOST_ANCESTORS) {
@@ -570,7 +637,8 @@ pub(crate) fn select_paths<'b>(
     moves: &[Move<'b>],
     looks: &[&'b Path<'b>],
 ) -> Result<Vec<&'b Path<'b>>, NoMemory>
-    ensures { IfOk result (λ v. see_paths v.items ≡ map (λ m. see.path m.path.now) moves.now ++ see_paths looks.now) }
+    ensures { IfOk result
+        (λ v. see_paths v.items ≡ map (λ m. see.path m.path.now) moves.now ++ see_paths looks.now) }
 {
     let mut paths = Vec::new(alloc);
     for found in moves {
@@ -587,10 +655,15 @@ fn select_graphs(
     looks: &[&Path<'_>],
 ) -> Result<Vec<Graph>, RulesFault>
     requires { source.now.sets ≡ 2 ^ length source.now.predicates.items }
-    ensures graphs { IfOk result (λ v. (symbols : List Mention) → IsSourceOf symbols source.now → AreGraphs symbols (predicates source.now.predicates.items) (map (λ m. see.path m.path.now) moves.now ++ see_paths looks.now) (see_graphs v.items)) }
+    ensures graphs { IfOk result
+        (λ v. (symbols : List Mention) → IsSourceOf symbols source.now
+        → AreGraphs symbols (predicates source.now.predicates.items)
+        (map (λ m. see.path m.path.now) moves.now ++ see_paths looks.now) (see_graphs v.items)) }
     ensures few { IfOk result (λ v. count_states (see_graphs v.items) ≤ 4096) }
     ensures ending { IfOk result (λ v. AllKeepEndings v.items) }
-    ensures cause { IfErr result (λ e. IsSelectCause source.now (map (λ m. see.path m.path.now) moves.now ++ see_paths looks.now) e) }
+    ensures cause { IfErr result
+        (λ e. IsSelectCause source.now
+        (map (λ m. see.path m.path.now) moves.now ++ see_paths looks.now) e) }
 {
     let paths = select_paths(source.alloc, moves, looks)?;
     graphs_of(source, &paths)
@@ -599,7 +672,10 @@ fn select_graphs(
 /// The graphs of the select states of paths.
 fn graphs_of(source: &Source<'_, '_>, paths: &[&Path<'_>]) -> Result<Vec<Graph>, RulesFault>
     requires { source.now.sets ≡ 2 ^ length source.now.predicates.items }
-    ensures graphs { IfOk result (λ v. (symbols : List Mention) → IsSourceOf symbols source.now → AreGraphs symbols (predicates source.now.predicates.items) (see_paths paths.now) (see_graphs v.items)) }
+    ensures graphs { IfOk result
+        (λ v. (symbols : List Mention) → IsSourceOf symbols source.now
+        → AreGraphs symbols (predicates source.now.predicates.items) (see_paths paths.now)
+        (see_graphs v.items)) }
     ensures few { IfOk result (λ v. count_states (see_graphs v.items) ≤ 4096) }
     ensures ending { IfOk result (λ v. AllKeepEndings v.items) }
     ensures cause { IfErr result (λ e. IsSelectCause source.now (see_paths paths.now) e) }
@@ -616,7 +692,8 @@ fn graphs_of(source: &Source<'_, '_>, paths: &[&Path<'_>]) -> Result<Vec<Graph>,
 
 fn keep_graph(graphs: &mut Vec<Graph>, graph: Graph) -> Result<(), NoMemory>
     ensures items { OnOk result (graphs.new.items ≡ graphs.old.items ++ graph ∷ []) }
-    ensures graphs { OnOk result (see_graphs graphs.new.items ≡ see_graphs graphs.old.items ++ see_graph graph ∷ []) }
+    ensures graphs { OnOk result
+        (see_graphs graphs.new.items ≡ see_graphs graphs.old.items ++ see_graph graph ∷ []) }
 {
     graphs.push(graph)?;
     Ok(())
@@ -626,7 +703,10 @@ fn keep_graph(graphs: &mut Vec<Graph>, graph: Graph) -> Result<(), NoMemory>
 fn next_graph(source: &Source<'_, '_>, path: &Path<'_>, left: usize) -> Result<Graph, RulesFault>
     requires sets { source.now.sets ≡ 2 ^ length source.now.predicates.items }
     requires few { left ≤ 4096 }
-    ensures graph { IfOk result (λ g. (symbols : List Mention) → IsSourceOf symbols source.now → IsGraphOf symbols (predicates source.now.predicates.items) some_item (see.path path.now) (see_graph g)) }
+    ensures graph { IfOk result
+        (λ g. (symbols : List Mention) → IsSourceOf symbols source.now
+        → IsGraphOf symbols (predicates source.now.predicates.items) some_item (see.path path.now)
+        (see_graph g)) }
     ensures few { IfOk result (λ g. length (see_graph g).states ≤ left) }
     ensures ending { IfOk result (λ g. KeepsEndings g) }
     ensures cause { IfErr result (λ e. IsNextCause source.now (see.path path.now) left e) }
@@ -640,7 +720,8 @@ fn next_graph(source: &Source<'_, '_>, path: &Path<'_>, left: usize) -> Result<G
 
 /// Adds so many states of a graph.
 fn add_selects(selects: &mut Vec<Select>, graph: usize, count: u32) -> Result<(), NoMemory>
-    ensures { OnOk result (selects.new.items ≡ selects.old.items ++ map (λ j. record { graph = graph; state = j }) (numbers_below count)) }
+    ensures { OnOk result (selects.new.items ≡ selects.old.items
+        ++ map (λ j. record { graph = graph; state = j }) (numbers_below count)) }
 {
     for state in 0..count {
         selects.push(Select { graph, state })?;

@@ -21,7 +21,10 @@ fn same_node_test(a: &NodeTest<'_>, b: &NodeTest<'_>) -> bool
 
 #[cycle(paths)]
 fn same_step(a: &Step<'_>, b: &Step<'_>) -> bool
-    ensures { (x y : s.Steps) → same.same_steps (s.step a.now.deep (see.node_test a.now.test) (see.test a.now.when) x) (s.step b.now.deep (see.node_test b.now.test) (see.test b.now.when) y) ≡ (result && same.same_steps x y) }
+    ensures { (x y : s.Steps)
+        → same.same_steps (s.step a.now.deep (see.node_test a.now.test) (see.test a.now.when) x)
+        (s.step b.now.deep (see.node_test b.now.test) (see.test b.now.when) y)
+        ≡ (result && same.same_steps x y) }
 {
     a.deep == b.deep && same_node_test(&a.test, &b.test) && same_test(&a.when, &b.when)
 }

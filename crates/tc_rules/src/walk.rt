@@ -25,7 +25,8 @@ pub(crate) struct Move<'b> {
 
 /// One more predicate, unless it says nothing.
 fn add_predicate<'b>(found: &mut Vec<&'b Test<'b>>, test: &'b Test<'b>) -> Result<(), NoMemory>
-    ensures { OnOk result (predicates found.new.items ≡ predicates found.old.items ++ n.as_predicate (see.test test.now)) }
+    ensures { OnOk result (predicates found.new.items ≡ predicates found.old.items
+        ++ n.as_predicate (see.test test.now)) }
 {
     if !matches!(test, Test::True) {
         found.push(test)?;
@@ -39,7 +40,8 @@ fn predicates_in_steps<'b>(
     found: &mut Vec<&'b Test<'b>>,
     steps: &'b [Step<'b>],
 ) -> Result<(), NoMemory>
-    ensures { OnOk result (predicates found.new.items ≡ predicates found.old.items ++ n.predicates_in_steps (see.steps steps.now)) }
+    ensures { OnOk result (predicates found.new.items ≡ predicates found.old.items
+        ++ n.predicates_in_steps (see.steps steps.now)) }
 {
     for step in steps {
         add_predicate(found, &step.when)?;
@@ -50,7 +52,8 @@ fn predicates_in_steps<'b>(
 
 #[cycle(paths)]
 fn predicates_in_path<'b>(found: &mut Vec<&'b Test<'b>>, path: &'b Path<'b>) -> Result<(), NoMemory>
-    ensures { OnOk result (predicates found.new.items ≡ predicates found.old.items ++ n.predicates_in_path (see.path path.now)) }
+    ensures { OnOk result (predicates found.new.items ≡ predicates found.old.items
+        ++ n.predicates_in_path (see.path path.now)) }
 {
     for steps in path.alts {
         predicates_in_steps(found, steps)?;
@@ -61,7 +64,8 @@ fn predicates_in_path<'b>(found: &mut Vec<&'b Test<'b>>, path: &'b Path<'b>) -> 
 #[cycle(paths)]
 #[tactic(auto, using(tc_model::proofs::ViewsPath::see_test))]
 fn predicates_in_test<'b>(found: &mut Vec<&'b Test<'b>>, test: &'b Test<'b>) -> Result<(), NoMemory>
-    ensures { OnOk result (predicates found.new.items ≡ predicates found.old.items ++ n.predicates_in_test (see.test test.now)) }
+    ensures { OnOk result (predicates found.new.items ≡ predicates found.old.items
+        ++ n.predicates_in_test (see.test test.now)) }
 {
     match test {
         Test::True | Test::False => Ok(()),
@@ -76,7 +80,8 @@ fn predicates_in_tests<'b>(
     found: &mut Vec<&'b Test<'b>>,
     tests: &'b [Test<'b>],
 ) -> Result<(), NoMemory>
-    ensures { OnOk result (predicates found.new.items ≡ predicates found.old.items ++ n.predicates_in_tests (see.tests tests.now)) }
+    ensures { OnOk result (predicates found.new.items ≡ predicates found.old.items
+        ++ n.predicates_in_tests (see.tests tests.now)) }
 {
     for test in tests {
         predicates_in_test(found, test)?;
@@ -89,7 +94,8 @@ fn predicates_in_pattern<'b>(
     found: &mut Vec<&'b Test<'b>>,
     pattern: &'b Pattern<'b>,
 ) -> Result<(), NoMemory>
-    ensures { OnOk result (predicates found.new.items ≡ predicates found.old.items ++ n.predicates_in_pattern (see.match_pattern pattern.now)) }
+    ensures { OnOk result (predicates found.new.items ≡ predicates found.old.items
+        ++ n.predicates_in_pattern (see.match_pattern pattern.now)) }
 {
     match pattern {
         Pattern::Root => Ok(()),
@@ -109,7 +115,8 @@ pub(crate) enum Usage<'b> {
 
 /// One usage more.
 pub(crate) fn add_usage<'b>(found: &mut Vec<Usage<'b>>, usage: Usage<'b>) -> Result<(), NoMemory>
-    ensures { OnOk result (usages found.new.items ≡ usages found.old.items ++ see_usage usage.entry ∷ []) }
+    ensures { OnOk result
+        (usages found.new.items ≡ usages found.old.items ++ see_usage usage.entry ∷ []) }
 {
     found.push(usage)?;
     Ok(())
@@ -121,7 +128,8 @@ pub(crate) fn usages_in_body<'b>(
     found: &mut Vec<Usage<'b>>,
     body: &'b [Instr<'b>],
 ) -> Result<(), NoMemory>
-    ensures { OnOk result (usages found.new.items ≡ usages found.old.items ++ usages_in (see.body body.now)) }
+    ensures { OnOk result
+        (usages found.new.items ≡ usages found.old.items ++ usages_in (see.body body.now)) }
 {
     for instruction in body {
         usages_in_instruction(found, instruction)?;
@@ -135,7 +143,8 @@ fn usages_in_instruction<'b>(
     found: &mut Vec<Usage<'b>>,
     instruction: &'b Instr<'b>,
 ) -> Result<(), NoMemory>
-    ensures { OnOk result ((rest : s.Body) → usages found.new.items ++ usages_in rest ≡ usages found.old.items ++ usages_in (see.instruction instruction.now rest)) }
+    ensures { OnOk result ((rest : s.Body) → usages found.new.items ++ usages_in rest
+        ≡ usages found.old.items ++ usages_in (see.instruction instruction.now rest)) }
 {
     match instruction {
         Instr::Text(_) | Instr::Call(_) | Instr::ValueOfSelf => Ok(()),
@@ -159,7 +168,8 @@ fn usages_in_branches<'b>(
     found: &mut Vec<Usage<'b>>,
     branches: &'b [Branch<'b>],
 ) -> Result<(), NoMemory>
-    ensures { OnOk result ((rest : s.Branches) → usages found.new.items ++ usages_in_branches rest ≡ usages found.old.items ++ usages_in_branches (see.branches branches.now rest)) }
+    ensures { OnOk result ((rest : s.Branches) → usages found.new.items ++ usages_in_branches rest
+        ≡ usages found.old.items ++ usages_in_branches (see.branches branches.now rest)) }
 {
     for branch in branches {
         add_usage(found, Usage::Test(&branch.test))?;
@@ -173,7 +183,8 @@ pub(crate) fn predicates_in_usage<'b>(
     found: &mut Vec<&'b Test<'b>>,
     usage: &Usage<'b>,
 ) -> Result<(), NoMemory>
-    ensures { OnOk result (predicates found.new.items ≡ predicates found.old.items ++ predicates_in_usage (see_usage usage.now)) }
+    ensures { OnOk result (predicates found.new.items ≡ predicates found.old.items
+        ++ predicates_in_usage (see_usage usage.now)) }
 {
     match usage {
         Usage::Pattern(pattern) => predicates_in_pattern(found, pattern),
@@ -191,7 +202,8 @@ pub(crate) fn looks_in_test<'b>(
     found: &mut Vec<&'b Path<'b>>,
     test: &'b Test<'b>,
 ) -> Result<(), NoMemory>
-    ensures { OnOk result (looks found.new.items ≡ looks found.old.items ++ n.looks_in_test (see.test test.now)) }
+    ensures { OnOk result
+        (looks found.new.items ≡ looks found.old.items ++ n.looks_in_test (see.test test.now)) }
 {
     match test {
         Test::True | Test::False => Ok(()),
@@ -203,7 +215,8 @@ pub(crate) fn looks_in_test<'b>(
 
 #[cycle(look_tests)]
 fn looks_in_tests<'b>(found: &mut Vec<&'b Path<'b>>, tests: &'b [Test<'b>]) -> Result<(), NoMemory>
-    ensures { OnOk result (looks found.new.items ≡ looks found.old.items ++ n.looks_in_tests (see.tests tests.now)) }
+    ensures { OnOk result
+        (looks found.new.items ≡ looks found.old.items ++ n.looks_in_tests (see.tests tests.now)) }
 {
     for test in tests {
         looks_in_test(found, test)?;
@@ -213,7 +226,8 @@ fn looks_in_tests<'b>(found: &mut Vec<&'b Path<'b>>, tests: &'b [Test<'b>]) -> R
 
 /// One look more.
 fn add_look<'b>(found: &mut Vec<&'b Path<'b>>, path: &'b Path<'b>) -> Result<(), NoMemory>
-    ensures { OnOk result (looks found.new.items ≡ looks found.old.items ++ see.path path.now ∷ []) }
+    ensures { OnOk result
+        (looks found.new.items ≡ looks found.old.items ++ see.path path.now ∷ []) }
 {
     found.push(path)?;
     Ok(())
@@ -224,7 +238,8 @@ pub(crate) fn looks_in_usage<'b>(
     found: &mut Vec<&'b Path<'b>>,
     usage: &Usage<'b>,
 ) -> Result<(), NoMemory>
-    ensures { OnOk result (looks found.new.items ≡ looks found.old.items ++ looks_in_usage (see_usage usage.now)) }
+    ensures { OnOk result
+        (looks found.new.items ≡ looks found.old.items ++ looks_in_usage (see_usage usage.now)) }
 {
     match usage {
         Usage::Test(test) => looks_in_test(found, test),
@@ -238,7 +253,8 @@ pub(crate) fn moves_in_usage<'b>(
     found: &mut Vec<Move<'b>>,
     usage: &Usage<'b>,
 ) -> Result<(), NoMemory>
-    ensures { OnOk result ((modes : ℕ) → moves modes found.new.items ≡ moves modes found.old.items ++ moves_in_usage modes (see_usage usage.now)) }
+    ensures { OnOk result ((modes : ℕ) → moves modes found.new.items ≡ moves modes found.old.items
+        ++ moves_in_usage modes (see_usage usage.now)) }
 {
     match usage {
         Usage::Apply(path, mode) => add_move(found, path, Job::Mode(*mode)),
@@ -248,7 +264,8 @@ pub(crate) fn moves_in_usage<'b>(
 }
 
 fn add_move<'b>(found: &mut Vec<Move<'b>>, path: &'b Path<'b>, job: Job) -> Result<(), NoMemory>
-    ensures { OnOk result ((modes : ℕ) → moves modes found.new.items ≡ moves modes found.old.items ++ record { path = see.path path.now; mode = mode_of modes job } ∷ []) }
+    ensures { OnOk result ((modes : ℕ) → moves modes found.new.items ≡ moves modes found.old.items
+        ++ record { path = see.path path.now; mode = mode_of modes job } ∷ []) }
 {
     found.push(Move { path, job })?;
     Ok(())

@@ -12,7 +12,9 @@ pub(crate) fn add_ends(arrows: &[Arrow], states: &Set, ends: &mut Set)
     requires within { AreWithin states.now.size arrows.now }
     requires size { ends.old.size ≡ states.now.size }
     ensures size { ends.new.size ≡ ends.old.size }
-    ensures numbers { (j : ℕ) → Has ends.new j ↔ (Has ends.old j ⊎ ((i : ℕ) × Has states.now i × Contains arrows.now (record { from = i; to = j }))) }
+    ensures numbers { (j : ℕ) → Has ends.new j
+        ↔ (Has ends.old j
+        ⊎ ((i : ℕ) × Has states.now i × Contains arrows.now (record { from = i; to = j }))) }
 {
     for arrow in arrows {
         if states.has(arrow.from) {

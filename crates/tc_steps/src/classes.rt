@@ -48,8 +48,10 @@ impl Class {
         ensures known { self.new.known ≡ true }
         ensures numbers { self.new.numbers.size ≡ self.old.numbers.size }
         ensures firsts { self.new.firsts.size ≡ self.old.firsts.size }
-        ensures allowed { (x : g.Grammar) → a.Stands s.input x automaton.now → AreAllowed x (see.name name.now) self.new.numbers }
-        ensures led { (x : g.Grammar) → a.Stands s.input x automaton.now → AreLed x (see.name name.now) t.none self.new.firsts }
+        ensures allowed { (x : g.Grammar) → a.Stands s.input x automaton.now
+            → AreAllowed x (see.name name.now) self.new.numbers }
+        ensures led { (x : g.Grammar) → a.Stands s.input x automaton.now
+            → AreLed x (see.name name.now) t.none self.new.firsts }
     {
         self.numbers.clear();
         add_allowed(automaton, name, &mut self.numbers);
@@ -64,8 +66,10 @@ impl Class {
         ensures numbers { self.new.numbers.size ≡ self.old.numbers.size }
         ensures firsts { self.new.firsts.size ≡ self.old.firsts.size }
         ensures stays { self.old.known ≡ true → self.new ≡ self.old }
-        ensures allowed { self.old.known ≡ false → (x : g.Grammar) → a.Stands s.input x automaton.now → AreAllowed x (see.name name.now) self.new.numbers }
-        ensures led { self.old.known ≡ false → (x : g.Grammar) → a.Stands s.input x automaton.now → AreLed x (see.name name.now) t.none self.new.firsts }
+        ensures allowed { self.old.known ≡ false → (x : g.Grammar)
+            → a.Stands s.input x automaton.now → AreAllowed x (see.name name.now) self.new.numbers }
+        ensures led { self.old.known ≡ false → (x : g.Grammar) → a.Stands s.input x automaton.now
+            → AreLed x (see.name name.now) t.none self.new.firsts }
     {
         if self.known {
             return;

@@ -57,7 +57,8 @@ impl<'h, 't> Judge<'h, 't> {
     /// Whether the document that was taken is valid: exactly so, where all of it was taken from the beginning on. That it is
     /// a document isn't looked at: one element in normal form, with lawful names and characters.
     pub fn is_valid(&self) -> bool
-        ensures { (x : g.Grammar) (first : Judge) (d : t.Trees) → IsStart x.start → IsAt x first (outside t.none) → ev.Takes Takes first (ev.events d) self.now
+        ensures { (x : g.Grammar) (first : Judge) (d : t.Trees) → IsStart x.start
+            → IsAt x first (outside t.none) → ev.Takes Takes first (ev.events d) self.now
             → t.IsDocument d → IsTrue result ↔ IsValid x d }
     {
         self.is_valid

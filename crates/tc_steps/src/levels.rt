@@ -23,7 +23,8 @@ pub(crate) fn all_levels(
 ) -> Result<Vec<Level>, NoMemory>
     ensures count { IfOk result (λ r. length r.items ≡ most) }
     ensures symbols { IfOk result (λ r. All (λ (l : Level). l.symbol.0 ≡ 0) r.items) }
-    ensures sizes { IfOk result (λ r. All (λ (l : Level). l.states.size ≡ a.states automaton.now) r.items) }
+    ensures sizes { IfOk result
+        (λ r. All (λ (l : Level). l.states.size ≡ a.states automaton.now) r.items) }
 {
     let mut levels = Vec::with_capacity(alloc, most)?;
     for _level in 0..most {

@@ -18,7 +18,8 @@ pub(crate) fn add_allowed(automaton: &Auto<'_>, name: &Name<'_>, numbers: &mut S
     requires size { numbers.old.size ≡ a.patterns automaton.now + 1 }
     requires none { HasNone numbers.old }
     ensures size { numbers.new.size ≡ numbers.old.size }
-    ensures allowed { (x : g.Grammar) → a.Stands s.input x automaton.now → AreAllowed x (see.name name.now) numbers.new }
+    ensures allowed { (x : g.Grammar) → a.Stands s.input x automaton.now
+        → AreAllowed x (see.name name.now) numbers.new }
 {
     for before in 0..automaton.patterns() {
         if automaton.allows(before + 1, name) {
@@ -32,7 +33,8 @@ fn is_reached(automaton: &Auto<'_>, states: &Set, number: u32) -> bool
     requires from_one { 1 ≤ number }
     requires within { number ≤ a.patterns automaton.now }
     requires size { states.now.size ≡ a.states automaton.now }
-    ensures { (x : g.Grammar) → a.Stands s.input x automaton.now → IsTrue result ↔ IsReached x states.now number }
+    ensures { (x : g.Grammar) → a.Stands s.input x automaton.now → IsTrue result
+        ↔ IsReached x states.now number }
 {
     let first = automaton.first(number);
     let end = automaton.end(number);
@@ -50,7 +52,8 @@ pub(crate) fn is_taken(automaton: &Auto<'_>, numbers: &Set, states: &Set, number
     requires within { number ≤ a.patterns automaton.now }
     requires numbers { numbers.now.size ≡ a.patterns automaton.now + 1 }
     requires size { states.now.size ≡ a.states automaton.now }
-    ensures { (x : g.Grammar) → a.Stands s.input x automaton.now → IsTrue result ↔ IsTaken x numbers.now states.now number }
+    ensures { (x : g.Grammar) → a.Stands s.input x automaton.now → IsTrue result
+        ↔ IsTaken x numbers.now states.now number }
 {
     numbers.has(number) && is_reached(automaton, states, number)
 }
@@ -60,7 +63,9 @@ pub(crate) fn is_taken(automaton: &Auto<'_>, numbers: &Set, states: &Set, number
 pub(crate) fn is_started(automaton: &Auto<'_>, numbers: &Set, states: &Set) -> bool
     requires numbers { numbers.now.size ≡ a.patterns automaton.now + 1 }
     requires size { states.now.size ≡ a.states automaton.now }
-    ensures { (x : g.Grammar) (n : ExpandedName) (kids : t.Trees) → a.Stands s.input x automaton.now → AreAllowed x n numbers.now → AreLed x n kids states.now → IsTrue result ↔ IsStarted x n kids }
+    ensures { (x : g.Grammar) (n : ExpandedName) (kids : t.Trees)
+        → a.Stands s.input x automaton.now → AreAllowed x n numbers.now
+        → AreLed x n kids states.now → IsTrue result ↔ IsStarted x n kids }
 {
     for before in 0..automaton.patterns() {
         let number = before + 1;

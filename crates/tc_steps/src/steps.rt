@@ -18,7 +18,8 @@ pub(crate) fn enter(automaton: &Auto<'_>, numbers: &Set, states: &mut Set)
     requires numbers { numbers.now.size ≡ a.patterns automaton.now + 1 }
     requires size { states.old.size ≡ a.states automaton.now }
     ensures size { states.new.size ≡ states.old.size }
-    ensures led { (x : g.Grammar) (n : ExpandedName) → a.Stands s.input x automaton.now → AreAllowed x n numbers.now → AreLed x n t.none states.new }
+    ensures led { (x : g.Grammar) (n : ExpandedName) → a.Stands s.input x automaton.now
+        → AreAllowed x n numbers.now → AreLed x n t.none states.new }
 {
     states.clear();
     for before in 0..automaton.patterns() {
@@ -34,7 +35,8 @@ pub(crate) fn pass_text(automaton: &Auto<'_>, states: &mut Set, next: &mut Set)
     requires next { next.old.size ≡ a.states automaton.now }
     ensures size { states.new.size ≡ states.old.size }
     ensures next { next.new.size ≡ next.old.size }
-    ensures led { (x : g.Grammar) (n : ExpandedName) (kids : t.Trees) (text : List ℕ) → a.Stands s.input x automaton.now → t.is_white_space_only text ≡ false
+    ensures led { (x : g.Grammar) (n : ExpandedName) (kids : t.Trees) (text : List ℕ)
+        → a.Stands s.input x automaton.now → t.is_white_space_only text ≡ false
         → AreLed x n kids states.old → AreLed x n (t.beside kids (t.text text t.none)) states.new }
 {
     next.clear();
@@ -51,7 +53,8 @@ fn add_after(automaton: &Auto<'_>, numbers: &Set, ends: &Set, states: &Set, next
     requires next { next.old.size ≡ a.states automaton.now }
     requires none { HasNone next.old }
     ensures size { next.new.size ≡ next.old.size }
-    ensures numbers { (x : g.Grammar) → a.Stands s.input x automaton.now → (j : ℕ) → Has next.new j ↔ IsAfterElement x states.now (IsTaken x numbers.now ends.now) (length x.elements) j }
+    ensures numbers { (x : g.Grammar) → a.Stands s.input x automaton.now → (j : ℕ) → Has next.new j
+        ↔ IsAfterElement x states.now (IsTaken x numbers.now ends.now) (length x.elements) j }
 {
     for before in 0..automaton.patterns() {
         let number = before + 1;
@@ -76,8 +79,10 @@ pub(crate) fn pass_element(
     requires next { next.old.size ≡ a.states automaton.now }
     ensures size { states.new.size ≡ states.old.size }
     ensures next { next.new.size ≡ next.old.size }
-    ensures led { (x : g.Grammar) (n m : ExpandedName) (kids inside : t.Trees) → a.Stands s.input x automaton.now → AreAllowed x m numbers.now → AreLed x m inside ends.now
-        → AreLed x n kids states.old → AreLed x n (t.beside kids (t.element m inside t.none)) states.new }
+    ensures led { (x : g.Grammar) (n m : ExpandedName) (kids inside : t.Trees)
+        → a.Stands s.input x automaton.now → AreAllowed x m numbers.now → AreLed x m inside ends.now
+        → AreLed x n kids states.old
+        → AreLed x n (t.beside kids (t.element m inside t.none)) states.new }
 {
     next.clear();
     add_after(automaton, numbers, ends, states, next);

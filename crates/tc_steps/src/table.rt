@@ -73,7 +73,10 @@ impl<'h> Steps<'h> {
     ) -> Result<Steps<'h>, NoMemory>
         ensures auto { IfOk result (λ r. r.auto.now ≡ auto.now) }
         ensures alphabet { IfOk result (λ r. r.alphabet.now ≡ alphabet.now) }
-        ensures right { IfOk result (λ r. (x other : g.Grammar) (sheet : Sheet) → a.Stands s.input x auto.now → alphabet.now ≡ symbols_of x other sheet → IsFor x r.auto.now r.alphabet.now r.classes.items) }
+        ensures right { IfOk result
+            (λ r. (x other : g.Grammar) (sheet : Sheet) → a.Stands s.input x auto.now
+            → alphabet.now ≡ symbols_of x other sheet
+            → IsFor x r.auto.now r.alphabet.now r.classes.items) }
     {
         let classes = all_unknown(alloc, auto, alphabet)?;
         let next = Set::empty(alloc, auto.states())?;
@@ -92,8 +95,11 @@ impl<'h> Steps<'h> {
         ensures symbol { result.0 ≡ symbol_of self.old.alphabet.now (see.name name.now) }
         ensures below { result.0 < symbol_count self.old.alphabet.now }
         ensures known { IsKnown self.new.classes.items result.0 }
-        ensures stays { (k : ℕ) → IsKnown self.old.classes.items k → IsKnown self.new.classes.items k }
-        ensures right { (x : g.Grammar) → IsFor x self.old.auto.now self.old.alphabet.now self.old.classes.items → IsFor x self.new.auto.now self.new.alphabet.now self.new.classes.items }
+        ensures stays { (k : ℕ) → IsKnown self.old.classes.items k
+            → IsKnown self.new.classes.items k }
+        ensures right { (x : g.Grammar)
+            → IsFor x self.old.auto.now self.old.alphabet.now self.old.classes.items
+            → IsFor x self.new.auto.now self.new.alphabet.now self.new.classes.items }
     {
         let symbol = self.alphabet.sym_of(name);
         self.classes[symbol.0 as usize].meet(self.auto, name);
@@ -119,7 +125,10 @@ impl<'h> Steps<'h> {
         requires symbol { symbol.0 < symbol_count self.now.alphabet.now }
         requires size { states.old.size ≡ a.states self.now.auto.now }
         ensures size { states.new.size ≡ states.old.size }
-        ensures led { (x : g.Grammar) (n : ExpandedName) → IsFor x self.now.auto.now self.now.alphabet.now self.now.classes.items → IsKnown self.now.classes.items symbol.0 → symbol.0 ≡ symbol_of self.now.alphabet.now n → AreLed x n t.none states.new }
+        ensures led { (x : g.Grammar) (n : ExpandedName)
+            → IsFor x self.now.auto.now self.now.alphabet.now self.now.classes.items
+            → IsKnown self.now.classes.items symbol.0 → symbol.0
+            ≡ symbol_of self.now.alphabet.now n → AreLed x n t.none states.new }
     {
         replace(states, &self.classes[symbol.0 as usize].firsts);
     }
@@ -131,8 +140,11 @@ impl<'h> Steps<'h> {
         ensures auto { self.new.auto.now ≡ self.old.auto.now }
         ensures alphabet { self.new.alphabet.now ≡ self.old.alphabet.now }
         ensures classes { self.new.classes.items ≡ self.old.classes.items }
-        ensures led { (x : g.Grammar) (n : ExpandedName) (kids : t.Trees) (text : List ℕ) → IsFor x self.old.auto.now self.old.alphabet.now self.old.classes.items → t.is_white_space_only text ≡ false
-            → AreLed x n kids states.old → AreLed x n (t.beside kids (t.text text t.none)) states.new }
+        ensures led { (x : g.Grammar) (n : ExpandedName) (kids : t.Trees) (text : List ℕ)
+            → IsFor x self.old.auto.now self.old.alphabet.now self.old.classes.items
+            → t.is_white_space_only text ≡ false
+            → AreLed x n kids states.old
+            → AreLed x n (t.beside kids (t.text text t.none)) states.new }
     {
         pass_text(self.auto, states, &mut self.next);
     }
@@ -146,8 +158,11 @@ impl<'h> Steps<'h> {
         ensures auto { self.new.auto.now ≡ self.old.auto.now }
         ensures alphabet { self.new.alphabet.now ≡ self.old.alphabet.now }
         ensures classes { self.new.classes.items ≡ self.old.classes.items }
-        ensures led { (x : g.Grammar) (n m : ExpandedName) (kids inside : t.Trees) → IsFor x self.old.auto.now self.old.alphabet.now self.old.classes.items → IsKnown self.old.classes.items symbol.0 → symbol.0 ≡ symbol_of self.old.alphabet.now m
-            → AreLed x m inside ends.now → AreLed x n kids states.old → AreLed x n (t.beside kids (t.element m inside t.none)) states.new }
+        ensures led { (x : g.Grammar) (n m : ExpandedName) (kids inside : t.Trees)
+            → IsFor x self.old.auto.now self.old.alphabet.now self.old.classes.items
+            → IsKnown self.old.classes.items symbol.0 → symbol.0 ≡ symbol_of self.old.alphabet.now m
+            → AreLed x m inside ends.now → AreLed x n kids states.old
+            → AreLed x n (t.beside kids (t.element m inside t.none)) states.new }
     {
         let numbers = &self.classes[symbol.0 as usize].numbers;
         pass_element(self.auto, numbers, ends, states, &mut self.next);
@@ -157,7 +172,9 @@ impl<'h> Steps<'h> {
     pub fn is_started(&self, symbol: Sym, ends: &Set) -> bool
         requires symbol { symbol.0 < symbol_count self.now.alphabet.now }
         requires ends { ends.now.size ≡ a.states self.now.auto.now }
-        ensures { (x : g.Grammar) (m : ExpandedName) (inside : t.Trees) → IsFor x self.now.auto.now self.now.alphabet.now self.now.classes.items → IsKnown self.now.classes.items symbol.0 → symbol.0 ≡ symbol_of self.now.alphabet.now m
+        ensures { (x : g.Grammar) (m : ExpandedName) (inside : t.Trees)
+            → IsFor x self.now.auto.now self.now.alphabet.now self.now.classes.items
+            → IsKnown self.now.classes.items symbol.0 → symbol.0 ≡ symbol_of self.now.alphabet.now m
             → AreLed x m inside ends.now → IsTrue result ↔ IsStarted x m inside }
     {
         is_started(self.auto, &self.classes[symbol.0 as usize].numbers, ends)

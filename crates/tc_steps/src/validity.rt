@@ -54,8 +54,10 @@ impl<'h> Validity<'h> {
     ) -> Result<Validity<'h>, NoMemory>
         ensures room { IfOk result (λ r. length r.levels.items ≡ most) }
         ensures depth { IfOk result (λ r. r.depth ≡ 0) }
-        ensures within { IfOk result (λ r. (x other : g.Grammar) (sheet : Sheet) → a.Stands s.input x auto.now → alphabet.now ≡ symbols_of x other sheet
-            → IsWithin x r.steps.auto.now r.steps.alphabet.now r.steps.classes.items r.levels.items r.depth r.has_text [] []) }
+        ensures within { IfOk result (λ r. (x other : g.Grammar) (sheet : Sheet)
+            → a.Stands s.input x auto.now → alphabet.now ≡ symbols_of x other sheet
+            → IsWithin x r.steps.auto.now r.steps.alphabet.now r.steps.classes.items r.levels.items
+            r.depth r.has_text [] []) }
     {
         let steps = Steps::new(alloc, auto, alphabet)?;
         let levels = all_levels(alloc, auto, most)?;
@@ -101,8 +103,13 @@ impl<'h> Validity<'h> {
         requires text { self.old.has_text ≡ true }
         ensures depth { self.new.depth ≡ self.old.depth }
         ensures room { length self.new.levels.items ≡ length self.old.levels.items }
-        ensures within { (x : g.Grammar) (path : List Open) (run : List ℕ) → IsWithin x self.old.steps.auto.now self.old.steps.alphabet.now self.old.steps.classes.items self.old.levels.items self.old.depth self.old.has_text path run
-            → IsWithin x self.new.steps.auto.now self.new.steps.alphabet.now self.new.steps.classes.items self.new.levels.items self.new.depth self.new.has_text (with_text run path) [] }
+        ensures within { (x : g.Grammar) (path : List Open) (run : List ℕ)
+            → IsWithin x self.old.steps.auto.now self.old.steps.alphabet.now
+            self.old.steps.classes.items self.old.levels.items self.old.depth self.old.has_text
+            path run
+            → IsWithin x self.new.steps.auto.now self.new.steps.alphabet.now
+            self.new.steps.classes.items self.new.levels.items self.new.depth self.new.has_text
+            (with_text run path) [] }
     {
         let level = self.depth - 1;
         self.steps.pass_text(&mut self.levels[level].states);
@@ -113,8 +120,13 @@ impl<'h> Validity<'h> {
     fn end_text(&mut self)
         ensures depth { self.new.depth ≡ self.old.depth }
         ensures room { length self.new.levels.items ≡ length self.old.levels.items }
-        ensures within { (x : g.Grammar) (path : List Open) (run : List ℕ) → IsWithin x self.old.steps.auto.now self.old.steps.alphabet.now self.old.steps.classes.items self.old.levels.items self.old.depth self.old.has_text path run
-            → IsWithin x self.new.steps.auto.now self.new.steps.alphabet.now self.new.steps.classes.items self.new.levels.items self.new.depth self.new.has_text (with_text run path) [] }
+        ensures within { (x : g.Grammar) (path : List Open) (run : List ℕ)
+            → IsWithin x self.old.steps.auto.now self.old.steps.alphabet.now
+            self.old.steps.classes.items self.old.levels.items self.old.depth self.old.has_text
+            path run
+            → IsWithin x self.new.steps.auto.now self.new.steps.alphabet.now
+            self.new.steps.classes.items self.new.levels.items self.new.depth self.new.has_text
+            (with_text run path) [] }
     {
         if !self.has_text {
             return;
@@ -131,7 +143,10 @@ impl<'h> Validity<'h> {
         requires { self.old.depth < length self.old.levels.items }
         ensures room { length self.new.levels.items ≡ length self.old.levels.items }
         ensures depth { self.new.depth ≡ self.old.depth + 1 }
-        ensures within { (x : g.Grammar) (path : List Open) (run : List ℕ) → IsWithin x self.old.steps.auto.now self.old.steps.alphabet.now self.old.steps.classes.items self.old.levels.items self.old.depth self.old.has_text path run
+        ensures within { (x : g.Grammar) (path : List Open) (run : List ℕ)
+            → IsWithin x self.old.steps.auto.now self.old.steps.alphabet.now
+            self.old.steps.classes.items self.old.levels.items self.old.depth self.old.has_text
+            path run
             → IsWithin x self.new.steps.auto.now self.new.steps.alphabet.now self.new.steps.classes.items self.new.levels.items self.new.depth self.new.has_text (record { name = see.name name.now; kids = t.none } ∷ with_text run path) [] }
     {
         self.end_text();
@@ -149,9 +164,20 @@ impl<'h> Validity<'h> {
         ensures room { length self.new.levels.items ≡ length self.old.levels.items }
         ensures depth { self.new.depth + 1 ≡ self.old.depth }
         ensures symbol { result.0 < symbol_count self.new.steps.alphabet.now }
-        ensures within { (x : g.Grammar) (o : Open) (path : List Open) → IsWithin x self.old.steps.auto.now self.old.steps.alphabet.now self.old.steps.classes.items self.old.levels.items self.old.depth self.old.has_text (o ∷ path) [] → IsWithin x self.new.steps.auto.now self.new.steps.alphabet.now self.new.steps.classes.items self.new.levels.items self.new.depth self.new.has_text path [] }
-        ensures left { (x : g.Grammar) (o : Open) (path : List Open) → IsWithin x self.old.steps.auto.now self.old.steps.alphabet.now self.old.steps.classes.items self.old.levels.items self.old.depth self.old.has_text (o ∷ path) []
-            → (result.0 ≡ symbol_of self.new.steps.alphabet.now o.name) × IsKnown self.new.steps.classes.items result.0 × AreLed x o.name o.kids self.new.ended }
+        ensures within { (x : g.Grammar) (o : Open) (path : List Open)
+            → IsWithin x self.old.steps.auto.now self.old.steps.alphabet.now
+            self.old.steps.classes.items self.old.levels.items self.old.depth self.old.has_text
+            (o ∷ path) []
+            → IsWithin x self.new.steps.auto.now self.new.steps.alphabet.now
+            self.new.steps.classes.items self.new.levels.items self.new.depth self.new.has_text
+            path [] }
+        ensures left { (x : g.Grammar) (o : Open) (path : List Open)
+            → IsWithin x self.old.steps.auto.now self.old.steps.alphabet.now
+            self.old.steps.classes.items self.old.levels.items self.old.depth self.old.has_text
+            (o ∷ path) []
+            → (result.0 ≡ symbol_of self.new.steps.alphabet.now o.name)
+            × IsKnown self.new.steps.classes.items result.0
+            × AreLed x o.name o.kids self.new.ended }
     {
         self.depth -= 1;
         let level = &self.levels[self.depth];
@@ -164,9 +190,17 @@ impl<'h> Validity<'h> {
         requires { 0 < self.old.depth }
         ensures room { length self.new.levels.items ≡ length self.old.levels.items }
         ensures depth { self.new.depth + 1 ≡ self.old.depth }
-        ensures within { (x : g.Grammar) (o : Open) (path : List Open) (run : List ℕ) → IsWithin x self.old.steps.auto.now self.old.steps.alphabet.now self.old.steps.classes.items self.old.levels.items self.old.depth self.old.has_text (o ∷ path) run
-            → IsWithin x self.new.steps.auto.now self.new.steps.alphabet.now self.new.steps.classes.items self.new.levels.items self.new.depth self.new.has_text (with_element o.name (t.beside o.kids (t.kept run t.none)) path) [] }
-        ensures valid { (x : g.Grammar) (o : Open) (run : List ℕ) → IsWithin x self.old.steps.auto.now self.old.steps.alphabet.now self.old.steps.classes.items self.old.levels.items self.old.depth self.old.has_text (o ∷ []) run
+        ensures within { (x : g.Grammar) (o : Open) (path : List Open) (run : List ℕ)
+            → IsWithin x self.old.steps.auto.now self.old.steps.alphabet.now
+            self.old.steps.classes.items self.old.levels.items self.old.depth self.old.has_text
+            (o ∷ path) run
+            → IsWithin x self.new.steps.auto.now self.new.steps.alphabet.now
+            self.new.steps.classes.items self.new.levels.items self.new.depth self.new.has_text
+            (with_element o.name (t.beside o.kids (t.kept run t.none)) path) [] }
+        ensures valid { (x : g.Grammar) (o : Open) (run : List ℕ)
+            → IsWithin x self.old.steps.auto.now self.old.steps.alphabet.now
+            self.old.steps.classes.items self.old.levels.items self.old.depth self.old.has_text
+            (o ∷ []) run
             → IsTrue self.new.is_valid ↔ IsStarted x o.name (t.beside o.kids (t.kept run t.none)) }
     {
         self.end_text();

@@ -48,8 +48,12 @@ impl Attribute {
 
     /// The prefix that it declares, where it is a declaration (Namespaces in XML 1.0, 3, [1] to [3]).
     pub(crate) fn declares<'t>(&self, tag: &'t [u8]) -> Option<&'t [u8]>
-        ensures { MatchOption result (is_declared (at_span self.now.prefix tag.now) (at_span self.now.local tag.now) ≡ false)
-            (λ prefix. (is_declared (at_span self.now.prefix tag.now) (at_span self.now.local tag.now) ≡ true) × (prefix.now ≡ declared_prefix (at_span self.now.prefix tag.now) (at_span self.now.local tag.now))) }
+        ensures { MatchOption result
+            (is_declared (at_span self.now.prefix tag.now) (at_span self.now.local tag.now) ≡ false)
+            (λ prefix. (is_declared (at_span self.now.prefix tag.now)
+            (at_span self.now.local tag.now) ≡ true)
+            × (prefix.now
+            ≡ declared_prefix (at_span self.now.prefix tag.now) (at_span self.now.local tag.now))) }
     {
         let prefix = self.prefix.of(tag);
         let local = self.local.of(tag);
@@ -64,8 +68,10 @@ impl Attribute {
 
     /// Its namespace name, empty where it has none: it is no declaration.
     fn uri<'n>(&self, tag: &[u8], names: &'n Room, scopes: &Scopes) -> &'n [u8]
-        requires { scopes.now.chains.chains ≡ chains_in names.now.bytes.items scopes.now.declared.items }
-        ensures { result.now ≡ uri_bytes names.now.bytes.items scopes.now.declared.items (at_span self.now.prefix tag.now) }
+        requires { scopes.now.chains.chains
+            ≡ chains_in names.now.bytes.items scopes.now.declared.items }
+        ensures { result.now ≡ uri_bytes names.now.bytes.items scopes.now.declared.items
+            (at_span self.now.prefix tag.now) }
     {
         let prefix = self.prefix.of(tag);
         if prefix == b"".as_slice() {
@@ -90,8 +96,13 @@ impl Sort {
         names: &'n Room,
         scopes: &Scopes,
     ) -> Option<(&'n [u8], &'n [u8])>
-        requires { scopes.now.chains.chains ≡ chains_in names.now.bytes.items scopes.now.declared.items }
-        ensures { MatchOption result (parts self tag.now names.now.bytes.items scopes.now.declared.items attribute.now ≡ None) (λ r. parts self tag.now names.now.bytes.items scopes.now.declared.items attribute.now ≡ Some (r.0.now, r.1.now)) }
+        requires { scopes.now.chains.chains
+            ≡ chains_in names.now.bytes.items scopes.now.declared.items }
+        ensures { MatchOption result
+            (parts self tag.now names.now.bytes.items scopes.now.declared.items attribute.now
+            ≡ None)
+            (λ r. parts self tag.now names.now.bytes.items scopes.now.declared.items attribute.now
+            ≡ Some (r.0.now, r.1.now)) }
     {
         match self {
             Sort::Written => Some((attribute.prefix.of(tag), attribute.local.of(tag))),
@@ -106,8 +117,10 @@ impl Sort {
 
     /// The chain of the name of an attribute.
     fn chain(self, attribute: &Attribute, tag: &[u8], names: &Room, scopes: &Scopes) -> usize
-        requires { scopes.now.chains.chains ≡ chains_in names.now.bytes.items scopes.now.declared.items }
-        ensures chain { result ≡ chain_of_parts (parts self tag.now names.now.bytes.items scopes.now.declared.items attribute.now) }
+        requires { scopes.now.chains.chains
+            ≡ chains_in names.now.bytes.items scopes.now.declared.items }
+        ensures chain { result ≡ chain_of_parts
+            (parts self tag.now names.now.bytes.items scopes.now.declared.items attribute.now) }
         ensures within { result < 4096 }
     {
         match self.name(attribute, tag, names, scopes) {
@@ -125,8 +138,10 @@ impl Sort {
         scopes: &Scopes,
         name: (&[u8], &[u8]),
     ) -> bool
-        requires { scopes.now.chains.chains ≡ chains_in names.now.bytes.items scopes.now.declared.items }
-        ensures { result ≡ has_parts (name.entry.0.now, name.entry.1.now) (parts self tag.now names.now.bytes.items scopes.now.declared.items attribute.now) }
+        requires { scopes.now.chains.chains
+            ≡ chains_in names.now.bytes.items scopes.now.declared.items }
+        ensures { result ≡ has_parts (name.entry.0.now, name.entry.1.now)
+            (parts self tag.now names.now.bytes.items scopes.now.declared.items attribute.now) }
     {
         match self.name(attribute, tag, names, scopes) {
             Some(other) => other.0 == name.0 && other.1 == name.1,
@@ -144,9 +159,14 @@ impl Sort {
         names: &Room,
         scopes: &Scopes,
     ) -> bool
-        requires scopes { scopes.now.chains.chains ≡ chains_in names.now.bytes.items scopes.now.declared.items }
-        requires seen { chains.now.chains ≡ chains_of_parts self tag.now names.now.bytes.items scopes.now.declared.items seen.now }
-        ensures { result ≡ is_among (parts self tag.now names.now.bytes.items scopes.now.declared.items attribute.now) (all_parts self tag.now names.now.bytes.items scopes.now.declared.items seen.now) }
+        requires scopes { scopes.now.chains.chains
+            ≡ chains_in names.now.bytes.items scopes.now.declared.items }
+        requires seen { chains.now.chains
+            ≡ chains_of_parts self tag.now names.now.bytes.items scopes.now.declared.items seen.now }
+        ensures { result
+            ≡ is_among
+            (parts self tag.now names.now.bytes.items scopes.now.declared.items attribute.now)
+            (all_parts self tag.now names.now.bytes.items scopes.now.declared.items seen.now) }
     {
         let Some(name) = self.name(attribute, tag, names, scopes) else {
             return false;
@@ -170,13 +190,16 @@ impl Sort {
         names: &Room,
         scopes: &Scopes,
     ) -> bool
-        requires scopes { scopes.now.chains.chains ≡ chains_in names.now.bytes.items scopes.now.declared.items }
+        requires scopes { scopes.now.chains.chains
+            ≡ chains_in names.now.bytes.items scopes.now.declared.items }
         requires none { chains.old.chains ≡ [] }
         requires room { length list.now ≤ chains.old.most }
         ensures most { chains.new.most ≡ chains.old.most }
         ensures apart { MatchBool result
-            (IsDistinct same_parts (all_parts self tag.now names.now.bytes.items scopes.now.declared.items list.now))
-            (IsDistinct same_parts (all_parts self tag.now names.now.bytes.items scopes.now.declared.items list.now) → ⊥) }
+            (IsDistinct same_parts
+            (all_parts self tag.now names.now.bytes.items scopes.now.declared.items list.now))
+            (IsDistinct same_parts
+            (all_parts self tag.now names.now.bytes.items scopes.now.declared.items list.now) → ⊥) }
     {
         for at in 0..list.len() {
             let attribute = &list[at];
@@ -227,11 +250,16 @@ impl Attributes {
 
     /// Whether no two have one name of this sort.
     fn are_once(&mut self, sort: Sort, tag: &[u8], names: &Room, scopes: &Scopes) -> bool
-        requires { scopes.now.chains.chains ≡ chains_in names.now.bytes.items scopes.now.declared.items }
+        requires { scopes.now.chains.chains
+            ≡ chains_in names.now.bytes.items scopes.now.declared.items }
         ensures list { self.new.list.items ≡ self.old.list.items }
         ensures once { MatchBool result
-            (IsDistinct same_parts (all_parts sort tag.now names.now.bytes.items scopes.now.declared.items self.old.list.items))
-            (IsDistinct same_parts (all_parts sort tag.now names.now.bytes.items scopes.now.declared.items self.old.list.items) → ⊥) }
+            (IsDistinct same_parts
+            (all_parts sort tag.now names.now.bytes.items scopes.now.declared.items
+            self.old.list.items))
+            (IsDistinct same_parts
+            (all_parts sort tag.now names.now.bytes.items scopes.now.declared.items
+            self.old.list.items) → ⊥) }
     {
         let once = sort.are_apart(&self.list, &mut self.chains, tag, names, scopes);
         self.chains.keep(0);
@@ -241,13 +269,22 @@ impl Attributes {
     /// Whether no two are written alike (XML 1.0, 3.1, Unique Att Spec), and no two have one expanded name (Namespaces in
     /// XML 1.0, 6.3).
     pub(crate) fn are_apart(&mut self, tag: &[u8], names: &Room, scopes: &Scopes) -> bool
-        requires { scopes.now.chains.chains ≡ chains_in names.now.bytes.items scopes.now.declared.items }
+        requires { scopes.now.chains.chains
+            ≡ chains_in names.now.bytes.items scopes.now.declared.items }
         ensures list { self.new.list.items ≡ self.old.list.items }
         ensures apart { MatchBool result
-            (IsDistinct same_parts (all_parts Written tag.now names.now.bytes.items scopes.now.declared.items self.old.list.items)
-            × IsDistinct same_parts (all_parts Expanded tag.now names.now.bytes.items scopes.now.declared.items self.old.list.items))
-            (IsDistinct same_parts (all_parts Written tag.now names.now.bytes.items scopes.now.declared.items self.old.list.items)
-            → IsDistinct same_parts (all_parts Expanded tag.now names.now.bytes.items scopes.now.declared.items self.old.list.items) → ⊥) }
+            (IsDistinct same_parts
+            (all_parts Written tag.now names.now.bytes.items scopes.now.declared.items
+            self.old.list.items)
+            × IsDistinct same_parts
+            (all_parts Expanded tag.now names.now.bytes.items scopes.now.declared.items
+            self.old.list.items))
+            (IsDistinct same_parts
+            (all_parts Written tag.now names.now.bytes.items scopes.now.declared.items
+            self.old.list.items)
+            → IsDistinct same_parts
+            (all_parts Expanded tag.now names.now.bytes.items scopes.now.declared.items
+            self.old.list.items) → ⊥) }
     {
         self.are_once(Sort::Written, tag, names, scopes)
             && self.are_once(Sort::Expanded, tag, names, scopes)

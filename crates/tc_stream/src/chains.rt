@@ -87,7 +87,8 @@ impl Chains {
     pub(crate) fn older(&self, entry: usize) -> usize
         requires some { 0 < entry }
         requires within { entry ≤ length self.now.chains }
-        ensures { result ≡ newest (slice_index self.now.chains (entry - 1)) (reverse (take (entry - 1) self.now.chains)) }
+        ensures { result ≡ newest (slice_index self.now.chains (entry - 1))
+            (reverse (take (entry - 1) self.now.chains)) }
     {
         self.links[entry - 1].older
     }

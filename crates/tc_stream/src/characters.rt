@@ -50,7 +50,9 @@ pub(crate) fn front_of(bytes: &[u8]) -> Front<'_>
 /// The first bytes of a character that is cut off here: fewer than the first one says.
 pub(crate) fn cut_off(bytes: &[u8]) -> Option<Cut>
     requires { 0 < length bytes.now }
-    ensures { MatchOption result (char_length (slice_index bytes.now 0) ≤ length bytes.now) (λ cut. (cut_bytes cut ≡ bytes.now) × (length bytes.now < char_length (slice_index bytes.now 0))) }
+    ensures { MatchOption result (char_length (slice_index bytes.now 0) ≤ length bytes.now)
+        (λ cut. (cut_bytes cut ≡ bytes.now)
+        × (length bytes.now < char_length (slice_index bytes.now 0))) }
 {
     if bytes.len() >= length_from(bytes[0]) {
         return None;

@@ -23,7 +23,8 @@ use tc_scan::first_char;
 
 /// Whether a target begins an XML declaration.
 fn declares(phase: Phase, name: &Word) -> bool
-    ensures { (written : List ℕ) → Keeps name.now written → result ≡ (is_front phase && bytes_eq written (codes "xml")) }
+    ensures { (written : List ℕ) → Keeps name.now written → result
+        ≡ (is_front phase && bytes_eq written (codes "xml")) }
 {
     match phase {
         Phase::Front => name.is("xml"),
@@ -133,7 +134,8 @@ impl Reader<'_> {
     ) -> Result<(), StreamFault>
         requires ready { IsReading self.old }
         requires part { self.old.part ≡ Part.Target target }
-        requires told { (state : Option (List ℕ)) → IsTargeting target state → TellsTargeted (Targeted.White name) (scan.targeted_next state next) }
+        requires told { (state : Option (List ℕ)) → IsTargeting target state
+            → TellsTargeted (Targeted.White name) (scan.targeted_next state next) }
         ensures ok { OnOk result (ReadsChar self.old self.new next) }
         ensures fault { IfErr result (λ e. FaultsAtChar self.old next e) }
     {
@@ -160,7 +162,8 @@ impl Reader<'_> {
     ) -> Result<(), StreamFault>
         requires ready { IsReading self.old }
         requires part { self.old.part ≡ Part.Target target }
-        requires told { (state : Option (List ℕ)) → IsTargeting target state → TellsTargeted (Targeted.Question name) (scan.targeted_next state next) }
+        requires told { (state : Option (List ℕ)) → IsTargeting target state
+            → TellsTargeted (Targeted.Question name) (scan.targeted_next state next) }
         ensures ok { OnOk result (ReadsChar self.old self.new next) }
         ensures fault { IfErr result (λ e. FaultsAtChar self.old next e) }
     {

@@ -55,7 +55,8 @@ impl Setting {
 
     /// The setting whose word begins with this character, where it may follow what is set.
     fn behind(set: Option<Setting>, next: char) -> Option<Setting>
-        ensures { option_map setting_of result ≡ scan.setting_behind (option_map setting_of set) next }
+        ensures { option_map setting_of result
+            ≡ scan.setting_behind (option_map setting_of set) next }
     {
         match (set, next) {
             (None, 'v') => Some(Setting::Version),
@@ -68,7 +69,8 @@ impl Setting {
 
     /// What a declaration comes to with this value of it, whose word stands at a place.
     fn with(self, value: &Word, place: u32) -> Declared
-        ensures told { (written : List ℕ) → known value.now.count value.now.bytes ≡ kept written → TellsDeclared result (scan.valued (setting_of self) place written) }
+        ensures told { (written : List ℕ) → known value.now.count value.now.bytes ≡ kept written
+            → TellsDeclared result (scan.valued (setting_of self) place written) }
         ensures place { (most : ℕ) → place ≤ most → TellsPlace most result }
     {
         let set = Declared::More(Declaration::Between(Some(self), false));
@@ -100,7 +102,9 @@ impl Setting {
 
 /// What a character between two settings makes of a declaration.
 fn next_between(set: Option<Setting>, white: bool, next: char, place: u32) -> Declared
-    ensures told { (bytes : List ℕ) → TellsDeclared result (scan.declared_next (scan.between (option_map setting_of set) white) place next bytes) }
+    ensures told { (bytes : List ℕ)
+        → TellsDeclared result
+        (scan.declared_next (scan.between (option_map setting_of set) white) place next bytes) }
     ensures place { (most : ℕ) → place ≤ most → TellsPlace most result }
 {
     if is_white(next) {
@@ -124,7 +128,9 @@ fn next_between(set: Option<Setting>, white: bool, next: char, place: u32) -> De
 /// What a character behind the word of a setting makes of a declaration.
 fn next_behind_word(setting: Setting, count: u8, at: u32, next: char) -> Declared
     requires { length (scan.word_of (setting_of setting)) ≤ count }
-    ensures told { (place : ℕ) (bytes : List ℕ) → TellsDeclared result (scan.declared_next (scan.in_word (setting_of setting) [] at) place next bytes) }
+    ensures told { (place : ℕ) (bytes : List ℕ)
+        → TellsDeclared result
+        (scan.declared_next (scan.in_word (setting_of setting) [] at) place next bytes) }
     ensures place { (most : ℕ) → at ≤ most → TellsPlace most result }
 {
     if is_white(next) {
@@ -138,7 +144,10 @@ fn next_behind_word(setting: Setting, count: u8, at: u32, next: char) -> Declare
 
 /// What a character behind so many characters of the word of a setting makes of a declaration.
 fn next_in_word(setting: Setting, count: u8, at: u32, next: char) -> Declared
-    ensures told { (place : ℕ) (bytes : List ℕ) → TellsDeclared result (scan.declared_next (scan.in_word (setting_of setting) (left_of setting count) at) place next bytes) }
+    ensures told { (place : ℕ) (bytes : List ℕ)
+        → TellsDeclared result
+        (scan.declared_next
+        (scan.in_word (setting_of setting) (left_of setting count) at) place next bytes) }
     ensures place { (most : ℕ) → at ≤ most → TellsPlace most result }
 {
     let word = setting.word();
@@ -153,7 +162,9 @@ fn next_in_word(setting: Setting, count: u8, at: u32, next: char) -> Declared
 
 /// What a character behind the equals sign makes of a declaration.
 fn next_behind_equals(setting: Setting, at: u32, next: char) -> Declared
-    ensures told { (place : ℕ) (bytes : List ℕ) → TellsDeclared result (scan.declared_next (scan.equals (setting_of setting) at) place next bytes) }
+    ensures told { (place : ℕ) (bytes : List ℕ)
+        → TellsDeclared result
+        (scan.declared_next (scan.equals (setting_of setting) at) place next bytes) }
     ensures place { (most : ℕ) → at ≤ most → TellsPlace most result }
 {
     if is_white(next) {
@@ -167,8 +178,11 @@ fn next_behind_equals(setting: Setting, at: u32, next: char) -> Declared
 
 /// What a character in a literal makes of a declaration.
 fn next_in_literal(setting: Setting, at: u32, quote: char, value: &Word, next: char) -> Declared
-    ensures told { (place : ℕ) (written : List ℕ) → known value.now.count value.now.bytes ≡ kept written
-        → TellsDeclared result (scan.declared_next (scan.in_literal (setting_of setting) at quote written) place next (encode_utf8 next)) }
+    ensures told { (place : ℕ) (written : List ℕ) → known value.now.count value.now.bytes
+        ≡ kept written
+        → TellsDeclared result
+        (scan.declared_next (scan.in_literal (setting_of setting) at quote written) place next
+        (encode_utf8 next)) }
     ensures place { (most : ℕ) → at ≤ most → TellsPlace most result }
 {
     if next == quote {
@@ -180,7 +194,8 @@ fn next_in_literal(setting: Setting, at: u32, quote: char, value: &Word, next: c
 
 /// What a character behind a question mark at a place makes of a declaration.
 fn next_at_end(at: u32, next: char) -> Declared
-    ensures told { (place : ℕ) (bytes : List ℕ) → TellsDeclared result (scan.declared_next scan.at_end place next bytes) }
+    ensures told { (place : ℕ) (bytes : List ℕ)
+        → TellsDeclared result (scan.declared_next scan.at_end place next bytes) }
     ensures place { (most : ℕ) → at ≤ most → TellsPlace most result }
 {
     if next == '>' {
@@ -201,7 +216,8 @@ impl Declaration {
 
     /// What the next character, which stands at this place, makes of it.
     pub(crate) fn next(self, next: char, place: u32) -> Declared
-        ensures told { (state : scan.Declaring) → IsDeclaring self state → TellsDeclared result (scan.declared_next state place next (encode_utf8 next)) }
+        ensures told { (state : scan.Declaring) → IsDeclaring self state
+            → TellsDeclared result (scan.declared_next state place next (encode_utf8 next)) }
         ensures place { (most : ℕ) → LiesBefore most self → place ≤ most → TellsPlace most result }
     {
         match self {

@@ -74,7 +74,8 @@ impl IdWord {
 
 /// Goes on where white space stands.
 fn if_white(next: char, then: Doctype, other: Typed) -> Typed
-    ensures { (state : scan.Typed) → TellsTyped other state → TellsTyped result (scan.if_white next (typing_of then) state) }
+    ensures { (state : scan.Typed) → TellsTyped other state
+        → TellsTyped result (scan.if_white next (typing_of then) state) }
 {
     if is_white(next) {
         Typed::More(then)
@@ -85,7 +86,8 @@ fn if_white(next: char, then: Doctype, other: Typed) -> Typed
 
 /// What a character makes of a declaration where its end may stand, or something else.
 fn or_end(next: char, other: Typed) -> Typed
-    ensures { (state : scan.Typed) → TellsTyped other state → TellsTyped result (scan.or_end next state) }
+    ensures { (state : scan.Typed) → TellsTyped other state
+        → TellsTyped result (scan.or_end next state) }
 {
     match next {
         '>' => Typed::Whole,
@@ -107,7 +109,8 @@ fn at_name(local: bool, next: char) -> Typed
 
 /// What a character behind the name makes of a declaration: white space, its end, or something else.
 fn behind_name(next: char, other: Typed) -> Typed
-    ensures { (state : scan.Typed) → TellsTyped other state → TellsTyped result (scan.behind_name next state) }
+    ensures { (state : scan.Typed) → TellsTyped other state
+        → TellsTyped result (scan.behind_name next state) }
 {
     if_white(next, Doctype::Named, or_end(next, other))
 }

@@ -43,7 +43,8 @@ struct Level {
 /// Where the name of a tag stands as it is written, its colon with it: behind the `<`.
 fn whole(tag: &str, name: &WrittenName) -> Span
     ensures start { result.start ≡ 1 }
-    ensures length { (n : QualifiedName) → IsNameAt tag.now name.now n → result.length ≡ written_length n }
+    ensures length { (n : QualifiedName) → IsNameAt tag.now name.now n → result.length
+        ≡ written_length n }
 {
     let bytes = tag.as_bytes();
     let prefix = name.prefix.of(bytes);
@@ -89,7 +90,9 @@ impl<'h> Elements<'h> {
         alphabet: &'h Alphabet,
     ) -> Result<Elements<'h>, NoMemory>
         ensures keeps { IfOk result (λ r. Keeps r [] first_scope) }
-        ensures steps { IfOk result (λ r. (x other : g.Grammar) (sheet : Sheet) → a.Stands s.input x auto.now → alphabet.now ≡ symbols_of x other sheet → AreSteps x r.validity [] []) }
+        ensures steps { IfOk result
+            (λ r. (x other : g.Grammar) (sheet : Sheet) → a.Stands s.input x auto.now
+            → alphabet.now ≡ symbols_of x other sheet → AreSteps x r.validity [] []) }
     {
         let levels = Vec::with_capacity(alloc, DEEPEST)?;
         let rooms = Rooms::new(alloc)?;
@@ -109,9 +112,11 @@ impl<'h> Elements<'h> {
         ensures scopes { self.new.rooms.scopes ≡ self.old.rooms.scopes }
         ensures levels { self.new.levels.items ≡ self.old.levels.items }
         ensures validity { self.new.validity ≡ self.old.validity }
-        ensures keeps { (ls : List goes.Level) (scope : List Bound) → Keeps self.old ls scope → Keeps self.new ls scope }
+        ensures keeps { (ls : List goes.Level) (scope : List Bound) → Keeps self.old ls scope
+            → Keeps self.new ls scope }
         ensures ready { IsReady self.old → IsReady self.new }
-        ensures ok { IfOk result (λ f. (e : WrittenElement) × FormRead tag.now f e × AreWritten tag.now self.new.rooms.attributes.list.items e.attributes) }
+        ensures ok { IfOk result (λ f. (e : WrittenElement) × FormRead tag.now f e
+            × AreWritten tag.now self.new.rooms.attributes.list.items e.attributes) }
         ensures no { IfErr result (λ x. Refuses x
             ((e : WrittenElement) → TagFormAt true (length tag.now) tag.now e (codes ">") → ⊥)
             ((e : WrittenElement) → TagFormAt false (length tag.now) tag.now e (codes ">") → ⊥)) }
@@ -119,7 +124,8 @@ impl<'h> Elements<'h> {
             ((e : WrittenElement) → TagFormAt true (length tag.now) tag.now e (codes "/>") → ⊥)
             ((e : WrittenElement) → TagFormAt false (length tag.now) tag.now e (codes "/>") → ⊥)) }
         ensures stands { IfErr result (λ x. UnsupportedAt (length tag.now) x (TagRefuses tag.now)) }
-        ensures malformed { IfErr result (λ x. OnMalformed x ((why : Reason) (at : List ℕ) → TagRefuses tag.now why at → ⊥)) }
+        ensures malformed { IfErr result
+            (λ x. OnMalformed x ((why : Reason) (at : List ℕ) → TagRefuses tag.now why at → ⊥)) }
     {
         form_of(tag, &mut self.rooms.attributes)
     }
@@ -148,8 +154,10 @@ impl<'h> Elements<'h> {
 
     /// The name of the innermost element as it is written.
     pub(crate) fn name(&self) -> &[u8]
-        ensures written { (l : goes.Level) (ls : List goes.Level) (scope : List Bound) → Keeps self.now (l ∷ ls) scope → result.now ≡ written_bytes l.written.name }
-        ensures named { (l : goes.Level) (ls : List goes.Level) (scope : List Bound) → Keeps self.now (l ∷ ls) scope → QNameAt result.now l.written.name [] }
+        ensures written { (l : goes.Level) (ls : List goes.Level) (scope : List Bound)
+            → Keeps self.now (l ∷ ls) scope → result.now ≡ written_bytes l.written.name }
+        ensures named { (l : goes.Level) (ls : List goes.Level) (scope : List Bound)
+            → Keeps self.now (l ∷ ls) scope → QNameAt result.now l.written.name [] }
     {
         match self.levels.last() {
             Some(level) => level.name.of(self.rooms.names.bytes()),
@@ -159,9 +167,12 @@ impl<'h> Elements<'h> {
 
     /// Takes characters that aren't white space alone.
     pub(crate) fn take_text(&mut self)
-        ensures keeps { (ls : List goes.Level) (scope : List Bound) → Keeps self.old ls scope → Keeps self.new ls scope }
+        ensures keeps { (ls : List goes.Level) (scope : List Bound) → Keeps self.old ls scope
+            → Keeps self.new ls scope }
         ensures ready { IsReady self.old → IsReady self.new }
-        ensures steps { (x : g.Grammar) (ls : List goes.Level) (run text : List ℕ) → IsFalse (is_white_space_only text) → AreSteps x self.old.validity ls run → AreSteps x self.new.validity ls (run ++ text) }
+        ensures steps { (x : g.Grammar) (ls : List goes.Level) (run text : List ℕ)
+            → IsFalse (is_white_space_only text) → AreSteps x self.old.validity ls run
+            → AreSteps x self.new.validity ls (run ++ text) }
     {
         self.validity.take_text();
     }
@@ -170,11 +181,14 @@ impl<'h> Elements<'h> {
     /// if the tag means something.
     fn step_into(&mut self, tag: &str, name: &WrittenName, level: Level) -> Option<()>
         requires room { length self.old.levels.items < 2000 }
-        requires chained { self.old.rooms.scopes.chains.chains ≡ chains_in self.old.rooms.names.bytes.items self.old.rooms.scopes.declared.items }
+        requires chained { self.old.rooms.scopes.chains.chains
+            ≡ chains_in self.old.rooms.names.bytes.items self.old.rooms.scopes.declared.items }
         ensures names { self.new.rooms.names ≡ self.old.rooms.names }
         ensures scopes { self.new.rooms.scopes ≡ self.old.rooms.scopes }
-        ensures levels { OnSome result (self.new.levels.items ≡ self.old.levels.items ++ level ∷ []) }
-        ensures into { MatchOption result (IsMeaningless tag.now name.now level.declared self.old) (λ _. GoesInto tag.now name.now level.declared self.old self.new) }
+        ensures levels { OnSome result
+            (self.new.levels.items ≡ self.old.levels.items ++ level ∷ []) }
+        ensures into { MatchOption result (IsMeaningless tag.now name.now level.declared self.old)
+            (λ _. GoesInto tag.now name.now level.declared self.old self.new) }
     {
         let bytes = tag.as_bytes();
         if !self.rooms.are_meant(bytes, level.declared) {
@@ -192,9 +206,13 @@ impl<'h> Elements<'h> {
     fn enter(&mut self, tag: &str, form: &Form) -> Result<(), NoElement>
         requires ready { IsReady self.old }
         requires depth { length self.old.levels.items < 2000 }
-        requires written { (e : WrittenElement) × FormRead tag.now form.now e × AreWritten tag.now self.old.rooms.attributes.list.items e.attributes }
+        requires written { (e : WrittenElement) × FormRead tag.now form.now e
+            × AreWritten tag.now self.old.rooms.attributes.list.items e.attributes }
         ensures ready { OnOk result (IsReady self.new) }
-        ensures enters { OnOk result ((e : WrittenElement) (ls : List goes.Level) (outer : List Bound) → FormRead tag.now form.now e → AreWritten tag.now self.old.rooms.attributes.list.items e.attributes
+        ensures enters { OnOk result
+            ((e : WrittenElement) (ls : List goes.Level) (outer : List Bound)
+            → FormRead tag.now form.now e
+            → AreWritten tag.now self.old.rooms.attributes.list.items e.attributes
             → IsChars tag.now → Keeps self.old ls outer → Enters self.old self.new ls outer e) }
         ensures no { IfErr result (IsRefused tag.now form.now self.old) }
     {
@@ -218,10 +236,15 @@ impl<'h> Elements<'h> {
     pub(crate) fn start(&mut self, tag: &str, form: &Form) -> Result<(), NoElement>
         requires ready { IsReady self.old }
         requires depth { length self.old.levels.items < 2000 }
-        requires written { (e : WrittenElement) × FormRead tag.now form.now e × AreWritten tag.now self.old.rooms.attributes.list.items e.attributes }
+        requires written { (e : WrittenElement) × FormRead tag.now form.now e
+            × AreWritten tag.now self.old.rooms.attributes.list.items e.attributes }
         ensures ready { OnOk result (IsReady self.new) }
-        ensures starts { OnOk result ((e : WrittenElement) (ls : List goes.Level) (outer : List Bound) → FormRead tag.now form.now e → AreWritten tag.now self.old.rooms.attributes.list.items e.attributes
-            → IsChars tag.now → Keeps self.old ls outer → Starts self.old self.new ls outer e form.now.is_empty) }
+        ensures starts { OnOk result
+            ((e : WrittenElement) (ls : List goes.Level) (outer : List Bound)
+            → FormRead tag.now form.now e
+            → AreWritten tag.now self.old.rooms.attributes.list.items e.attributes
+            → IsChars tag.now → Keeps self.old ls outer
+            → Starts self.old self.new ls outer e form.now.is_empty) }
         ensures no { IfErr result (IsRefused tag.now form.now self.old) }
     {
         self.enter(tag, form)?;
@@ -234,11 +257,19 @@ impl<'h> Elements<'h> {
 
     /// Goes out of the innermost element.
     pub(crate) fn end(&mut self)
-        ensures keeps { (l : goes.Level) (ls : List goes.Level) (scope : List Bound) (run : List ℕ) → Keeps self.old (l ∷ ls) scope → Keeps self.new (goes.with_element l.name (beside l.kids (kept run none)) ls) l.outer }
+        ensures keeps { (l : goes.Level) (ls : List goes.Level) (scope : List Bound) (run : List ℕ)
+            → Keeps self.old (l ∷ ls) scope
+            → Keeps self.new (goes.with_element l.name (beside l.kids (kept run none)) ls) l.outer }
         ensures ready { IsReady self.old → IsReady self.new }
-        ensures steps { (x : g.Grammar) (l : goes.Level) (ls : List goes.Level) (run : List ℕ) → AreSteps x self.old.validity (l ∷ ls) run → length self.old.levels.items ≡ length ls + 1
-            → AreSteps x self.new.validity (goes.with_element l.name (beside l.kids (kept run none)) ls) [] }
-        ensures valid { (x : g.Grammar) (l : goes.Level) (run : List ℕ) → AreSteps x self.old.validity (l ∷ []) run → length self.old.levels.items ≡ 1 → IsTrue self.new.validity.is_valid ↔ IsStarted x l.name (beside l.kids (kept run none)) }
+        ensures steps { (x : g.Grammar) (l : goes.Level) (ls : List goes.Level) (run : List ℕ)
+            → AreSteps x self.old.validity (l ∷ ls) run → length self.old.levels.items
+            ≡ length ls + 1
+            → AreSteps x self.new.validity
+            (goes.with_element l.name (beside l.kids (kept run none)) ls) [] }
+        ensures valid { (x : g.Grammar) (l : goes.Level) (run : List ℕ)
+            → AreSteps x self.old.validity (l ∷ []) run → length self.old.levels.items ≡ 1
+            → IsTrue self.new.validity.is_valid
+            ↔ IsStarted x l.name (beside l.kids (kept run none)) }
     {
         let Some(level) = self.levels.pop() else {
             return;

@@ -35,7 +35,8 @@ fn first_of_target(next: char) -> Targeted
 
 /// What the character behind some characters makes of a target.
 fn behind_target(name: Word, next: char) -> Targeted
-    ensures { (written : List ℕ) → Keeps name written → TellsTargeted result (scan.targeted_next (Some written) next) }
+    ensures { (written : List ℕ) → Keeps name written
+        → TellsTargeted result (scan.targeted_next (Some written) next) }
 {
     if is_ncname_char(next) {
         return Targeted::More(name.and(next));
@@ -51,7 +52,8 @@ fn behind_target(name: Word, next: char) -> Targeted
 
 /// What the next character makes of a target of which so much has come, or nothing.
 pub(crate) fn next_of_target(target: Option<Word>, next: char) -> Targeted
-    ensures { (state : Option (List ℕ)) → IsTargeting target state → TellsTargeted result (scan.targeted_next state next) }
+    ensures { (state : Option (List ℕ)) → IsTargeting target state
+        → TellsTargeted result (scan.targeted_next state next) }
 {
     match target {
         Some(name) => behind_target(name, next),
@@ -69,7 +71,8 @@ pub(crate) fn are_white(bytes: &[u8]) -> bool
 /// Whether what stands in a CDATA section is white space alone, as far as it is known: so many closing brackets and a
 /// text, but for so many bytes at its end.
 pub(crate) fn is_section_white(brackets: u8, text: &[u8], left: usize) -> bool
-    ensures { result ≡ list_all class.is_white (take ((brackets + length text.now) - left) (replicate brackets 0x5D ++ text.now)) }
+    ensures { result ≡ list_all class.is_white
+        (take ((brackets + length text.now) - left) (replicate brackets 0x5D ++ text.now)) }
 {
     let all = brackets as usize + text.len();
     if all <= left {

@@ -76,7 +76,8 @@ impl Room {
         ensures most { self.new.most ≡ self.old.most }
         ensures bytes { MatchBool result
             (self.new.bytes.items ≡ self.old.bytes.items ++ bytes.now)
-            ((self.new.bytes.items ≡ self.old.bytes.items) × (self.old.most < length self.old.bytes.items + length bytes.now)) }
+            ((self.new.bytes.items ≡ self.old.bytes.items)
+            × (self.old.most < length self.old.bytes.items + length bytes.now)) }
     {
         if bytes.len() > self.left() {
             return false;
@@ -92,7 +93,8 @@ impl Room {
         ensures most { self.new.most ≡ self.old.most }
         ensures bytes { MatchBool result
             (self.new.bytes.items ≡ self.old.bytes.items ++ text.now)
-            ((self.new.bytes.items ≡ self.old.bytes.items) × (self.old.most < length self.old.bytes.items + length text.now)) }
+            ((self.new.bytes.items ≡ self.old.bytes.items)
+            × (self.old.most < length self.old.bytes.items + length text.now)) }
     {
         self.push_all(text.as_bytes())
     }
@@ -102,7 +104,8 @@ impl Room {
         ensures most { self.new.most ≡ self.old.most }
         ensures bytes { MatchBool result
             (self.new.bytes.items ≡ self.old.bytes.items ++ byte ∷ [])
-            ((self.new.bytes.items ≡ self.old.bytes.items) × (self.old.most < length self.old.bytes.items + 1)) }
+            ((self.new.bytes.items ≡ self.old.bytes.items)
+            × (self.old.most < length self.old.bytes.items + 1)) }
     {
         self.push_all(&[byte])
     }

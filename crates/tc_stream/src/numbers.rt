@@ -18,7 +18,8 @@ impl Number {
     /// The number that one digit writes.
     pub(crate) fn of(digit: char, base: u32) -> Option<Number>
         requires { (2 ≤ base) × (base ≤ 16) }
-        ensures { MatchOption result (base ≤ digit_value digit) (λ n. (digit_value digit < base) × (n.value ≡ digit_value digit) × (n.base ≡ base)) }
+        ensures { MatchOption result (base ≤ digit_value digit)
+            (λ n. (digit_value digit < base) × (n.value ≡ digit_value digit) × (n.base ≡ base)) }
     {
         let value = digit.to_digit(base)?;
         Some(Number { value, base })
@@ -27,8 +28,10 @@ impl Number {
     /// The number with one digit more, unless it is above those of all characters.
     pub(crate) fn and(self, digit: char) -> Option<Number>
         ensures { MatchOption result
-            ((self.base ≤ digit_value digit) ⊎ (0x10FFFF < self.value * self.base + digit_value digit))
-            (λ n. (digit_value digit < self.base) × (n.value ≡ self.value * self.base + digit_value digit) × (n.base ≡ self.base)) }
+            ((self.base ≤ digit_value digit)
+            ⊎ (0x10FFFF < self.value * self.base + digit_value digit))
+            (λ n. (digit_value digit < self.base)
+            × (n.value ≡ self.value * self.base + digit_value digit) × (n.base ≡ self.base)) }
     {
         let digit = digit.to_digit(self.base)?;
         let value = self.value * self.base + digit;
@@ -43,7 +46,8 @@ impl Number {
 
     /// The character with this number, where XML has it.
     pub(crate) fn character(self) -> Option<char>
-        ensures { MatchOption result (IsTrue (class.is_char self.value) → ⊥) (λ c. (c ≡ self.value) × IsTrue (class.is_char c)) }
+        ensures { MatchOption result (IsTrue (class.is_char self.value) → ⊥)
+            (λ c. (c ≡ self.value) × IsTrue (class.is_char c)) }
     {
         let c = char::from_u32(self.value)?;
         if is_char(c) { Some(c) } else { None }

@@ -32,7 +32,9 @@ impl Mark {
 
     /// The mark that has begun with `<!` and this character, where it may stand in a part of a document.
     pub(crate) fn begun(phase: Phase, next: char) -> Option<Mark>
-        ensures { MatchOption result ((mark : Mark) → MayStand phase mark → next ≡ slice_index (mark_of mark) 2 → ⊥) (λ mark. MayStand phase mark × (next ≡ slice_index (mark_of mark) 2)) }
+        ensures { MatchOption result
+            ((mark : Mark) → MayStand phase mark → next ≡ slice_index (mark_of mark) 2 → ⊥)
+            (λ mark. MayStand phase mark × (next ≡ slice_index (mark_of mark) 2)) }
     {
         match (next, phase) {
             ('-', _) => Some(Mark::Comment),
@@ -46,7 +48,8 @@ impl Mark {
     /// How many of its characters have come with the next one, which is one of them or isn't.
     pub(crate) fn next(self, count: u8, next: char) -> Option<u8>
         requires { count < length (mark_of self) }
-        ensures { MatchOption result (next ≡ slice_index (mark_of self) count → ⊥) (λ more. (more ≡ count + 1) × (next ≡ slice_index (mark_of self) count)) }
+        ensures { MatchOption result (next ≡ slice_index (mark_of self) count → ⊥)
+            (λ more. (more ≡ count + 1) × (next ≡ slice_index (mark_of self) count)) }
     {
         if next == self.bytes()[count as usize] as char {
             Some(count + 1)

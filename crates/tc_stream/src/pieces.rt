@@ -33,8 +33,10 @@ fn take_behind(
     ensures within { length (cut_bytes cut.new) ≤ length bytes.now }
     ensures short { IsCutShort (cut_bytes cut.new) }
     ensures none { OnErr result (cut_bytes cut.new ≡ []) }
-    ensures ok { (x : g.Grammar) (chars : List ℕ) → ReadsTo x reader.old chars → IfOk result (λ _. ReadsPiece x reader.new (cut_bytes cut.new) (chars ++ bytes.now)) }
-    ensures fault { (x : g.Grammar) (chars : List ℕ) → length chars ≡ place → BeginsNoChar bytes.now → ReadsTo x reader.old chars
+    ensures ok { (x : g.Grammar) (chars : List ℕ) → ReadsTo x reader.old chars
+        → IfOk result (λ _. ReadsPiece x reader.new (cut_bytes cut.new) (chars ++ bytes.now)) }
+    ensures fault { (x : g.Grammar) (chars : List ℕ) → length chars ≡ place
+        → BeginsNoChar bytes.now → ReadsTo x reader.old chars
         → IfErr result (λ e. IsFaultOfFront (chars ++ bytes.now) e) }
 {
     if bytes.is_empty() {
@@ -66,7 +68,8 @@ fn take_whole(
     ensures none { OnErr result (cut_bytes cut.new ≡ []) }
     ensures ok { (x : g.Grammar) (chars : List ℕ) → length chars ≡ at → ReadsTo x reader.old chars
         → IfOk result (λ _. ReadsPiece x reader.new (cut_bytes cut.new) (chars ++ bytes.now)) }
-    ensures fault { (x : g.Grammar) (chars : List ℕ) → length chars ≡ at → ReadsTo x reader.old chars
+    ensures fault { (x : g.Grammar) (chars : List ℕ) → length chars ≡ at
+        → ReadsTo x reader.old chars
         → IfErr result (λ e. IsFaultOfFront (chars ++ bytes.now) e) }
 {
     let text = characters(bytes);
@@ -113,9 +116,12 @@ fn take_joined(
     ensures within { length (cut_bytes cut.new) ≤ length bytes.now }
     ensures short { IsCutShort (cut_bytes cut.new) }
     ensures none { OnErr result (cut_bytes cut.new ≡ []) }
-    ensures ok { (x : g.Grammar) (chars : List ℕ) → IsChars text.now → length chars ≡ at → ReadsTo x reader.old chars
-        → IfOk result (λ _. ReadsPiece x reader.new (cut_bytes cut.new) ((chars ++ text.now) ++ bytes.now)) }
-    ensures fault { (x : g.Grammar) (chars : List ℕ) → IsChars text.now → length chars ≡ at → ReadsTo x reader.old chars
+    ensures ok { (x : g.Grammar) (chars : List ℕ) → IsChars text.now → length chars ≡ at
+        → ReadsTo x reader.old chars
+        → IfOk result
+        (λ _. ReadsPiece x reader.new (cut_bytes cut.new) ((chars ++ text.now) ++ bytes.now)) }
+    ensures fault { (x : g.Grammar) (chars : List ℕ) → IsChars text.now → length chars ≡ at
+        → ReadsTo x reader.old chars
         → IfErr result (λ e. IsFaultOfFront ((chars ++ text.now) ++ bytes.now) e) }
 {
     let count = text.len();
@@ -140,8 +146,11 @@ fn take_cut(
     ensures short { IsCutShort (cut_bytes cut.new) }
     ensures kept { OnErr result (length (cut_bytes cut.new) ≤ length (cut_bytes cut.old)) }
     ensures ok { (x : g.Grammar) (chars : List ℕ) → length chars ≡ at → ReadsTo x reader.old chars
-        → IfOk result (λ _. ReadsPiece x reader.new (cut_bytes cut.new) ((chars ++ cut_bytes cut.old) ++ bytes.now)) }
-    ensures fault { (x : g.Grammar) (chars : List ℕ) → length chars ≡ at → ReadsTo x reader.old chars
+        → IfOk result
+        (λ _. ReadsPiece x reader.new (cut_bytes cut.new)
+        ((chars ++ cut_bytes cut.old) ++ bytes.now)) }
+    ensures fault { (x : g.Grammar) (chars : List ℕ) → length chars ≡ at
+        → ReadsTo x reader.old chars
         → IfErr result (λ e. IsFaultOfFront ((chars ++ cut_bytes cut.old) ++ bytes.now) e) }
 {
     let begun = *cut;
@@ -176,9 +185,13 @@ pub(crate) fn take(
     ensures within { length (cut_bytes cut.new) ≤ fed + length piece.now }
     ensures short { IsCutShort (cut_bytes cut.new) }
     ensures kept { OnErr result (length (cut_bytes cut.new) ≤ fed) }
-    ensures ok { (x : g.Grammar) (chars : List ℕ) → length chars + length (cut_bytes cut.old) ≡ fed → ReadsTo x reader.old chars
-        → IfOk result (λ _. ReadsPiece x reader.new (cut_bytes cut.new) ((chars ++ cut_bytes cut.old) ++ piece.now)) }
-    ensures fault { (x : g.Grammar) (chars : List ℕ) → length chars + length (cut_bytes cut.old) ≡ fed → ReadsTo x reader.old chars
+    ensures ok { (x : g.Grammar) (chars : List ℕ) → length chars + length (cut_bytes cut.old) ≡ fed
+        → ReadsTo x reader.old chars
+        → IfOk result
+        (λ _. ReadsPiece x reader.new (cut_bytes cut.new)
+        ((chars ++ cut_bytes cut.old) ++ piece.now)) }
+    ensures fault { (x : g.Grammar) (chars : List ℕ) → length chars + length (cut_bytes cut.old)
+        ≡ fed → ReadsTo x reader.old chars
         → IfErr result (λ e. IsFaultOfFront ((chars ++ cut_bytes cut.old) ++ piece.now) e) }
 {
     let known = cut.bytes().len() as u32;
@@ -193,9 +206,13 @@ pub(crate) fn take(
 pub(crate) fn finished(reader: &mut Reader<'_>, cut: Cut, fed: u32) -> Result<bool, StreamFault>
     requires within { length (cut_bytes cut) ≤ fed }
     requires room { fed ≤ 67108864 }
-    ensures ok { (x : g.Grammar) (chars : List ℕ) → IsStart x.start → length chars + length (cut_bytes cut) ≡ fed → ReadsTo x reader.old chars
-        → IfOk result (λ b. (h : RawTrees) × IsGood (chars ++ cut_bytes cut) h × (IsTrue b ↔ IsValid x (stripped h))) }
-    ensures fault { (x : g.Grammar) (chars : List ℕ) → length chars + length (cut_bytes cut) ≡ fed → BeginsNoChar (cut_bytes cut) → ReadsTo x reader.old chars
+    ensures ok { (x : g.Grammar) (chars : List ℕ) → IsStart x.start
+        → length chars + length (cut_bytes cut) ≡ fed → ReadsTo x reader.old chars
+        → IfOk result
+        (λ b. (h : RawTrees) × IsGood (chars ++ cut_bytes cut) h
+        × (IsTrue b ↔ IsValid x (stripped h))) }
+    ensures fault { (x : g.Grammar) (chars : List ℕ) → length chars + length (cut_bytes cut) ≡ fed
+        → BeginsNoChar (cut_bytes cut) → ReadsTo x reader.old chars
         → IfErr result (λ e. IsFaultOf (chars ++ cut_bytes cut) e) }
 {
     let left = cut.bytes().len() as u32;

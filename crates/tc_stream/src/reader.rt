@@ -42,7 +42,8 @@ impl<'h> Reader<'h> {
         alphabet: &'h Alphabet,
     ) -> Result<Reader<'h>, NoMemory>
         ensures ready { IfOk result (λ r. IsReading r) }
-        ensures reads { IfOk result (λ r. (x other : g.Grammar) (sheet : sh.Sheet) → a.Stands s.input x auto.now
+        ensures reads { IfOk result
+            (λ r. (x other : g.Grammar) (sheet : sh.Sheet) → a.Stands s.input x auto.now
             → alphabet.now ≡ symbols_of x other sheet → ReadsTo x r []) }
     {
         let tag = Room::new(alloc, LONGEST_TAG)?;
@@ -58,8 +59,10 @@ impl<'h> Reader<'h> {
 
     /// Whether the text may end here.
     pub(crate) fn is_at_end(&self) -> bool
-        ensures yes { IsTrue result → (self.now.part ≡ Part.Between) × (self.now.phase ≡ Phase.End) }
-        ensures no { IsFalse result → self.now.part ≡ Part.Between → self.now.phase ≡ Phase.End → ⊥ }
+        ensures yes { IsTrue result → (self.now.part ≡ Part.Between)
+            × (self.now.phase ≡ Phase.End) }
+        ensures no { IsFalse result → self.now.part ≡ Part.Between → self.now.phase ≡ Phase.End
+            → ⊥ }
     {
         match self.part {
             Part::Between => match self.phase {

@@ -133,7 +133,8 @@ impl Reader<'_> {
         requires ready { IsReading self.old }
         requires part { self.old.part ≡ Part.Between }
         requires around { self.old.phase ≢ Phase.Content }
-        requires no_mark { self.old.phase ≡ Phase.Mark → (r : List ℕ) → text.now ≡ 0xEF ∷ 0xBB ∷ 0xBF ∷ r → ⊥ }
+        requires no_mark { self.old.phase ≡ Phase.Mark → (r : List ℕ) → text.now
+            ≡ 0xEF ∷ 0xBB ∷ 0xBF ∷ r → ⊥ }
         requires some { 0 < length text.now }
         requires within { length text.now ≤ end }
         requires low { end ≤ 67108864 }
@@ -155,7 +156,8 @@ impl Reader<'_> {
         requires ready { IsReading self.old }
         requires part { self.old.part ≡ Part.Between }
         requires around { self.old.phase ≢ Phase.Content }
-        requires no_mark { self.old.phase ≡ Phase.Mark → (r : List ℕ) → text.now ≡ 0xEF ∷ 0xBB ∷ 0xBF ∷ r → ⊥ }
+        requires no_mark { self.old.phase ≡ Phase.Mark → (r : List ℕ) → text.now
+            ≡ 0xEF ∷ 0xBB ∷ 0xBF ∷ r → ⊥ }
         requires bare { length text.now ≤ length (xml.after_white text.now) }
         requires some { 0 < length text.now }
         requires within { length text.now ≤ end }
@@ -272,11 +274,14 @@ impl Reader<'_> {
     /// Reads a run of character data behind so many closing brackets.
     fn read_run(&mut self, run: &str, brackets: u8) -> Result<(), StreamFault>
         requires { brackets ≤ 2 }
-        ensures ok { OnOk result ((known : ℕ) × (self.new.part ≡ Part.Data known) × (cdata_scan brackets run.now ≡ going known)) }
-        ensures elements { OnOk result (TakesText (t.is_white_space_only run.now) self.old.elements self.new.elements) }
+        ensures ok { OnOk result ((known : ℕ) × (self.new.part ≡ Part.Data known)
+            × (cdata_scan brackets run.now ≡ going known)) }
+        ensures elements { OnOk result
+            (TakesText (t.is_white_space_only run.now) self.old.elements self.new.elements) }
         ensures phase { OnOk result (self.new.phase ≡ self.old.phase) }
         ensures begun { OnOk result (self.new.begun ≡ self.old.begun) }
-        ensures no { IfErr result (λ e. (e ≡ StreamFault.Malformed (record { 0 = self.old.begun })) × ((found : List ℕ) × (cdata_scan brackets run.now ≡ before found))) }
+        ensures no { IfErr result (λ e. (e ≡ StreamFault.Malformed (record { 0 = self.old.begun }))
+            × ((found : List ℕ) × (cdata_scan brackets run.now ≡ before found))) }
     {
         let Some(known) = data_end(brackets, run.as_bytes()) else {
             return Err(malformed(self.begun));
@@ -305,7 +310,8 @@ impl Reader<'_> {
         requires ready { IsReading self.old }
         requires part { self.old.part ≡ Part.Comment hyphens }
         requires some { 0 < length text.now }
-        ensures ok { (end : ℕ) → IfOk result (λ rest. ReadsOn self.old self.new text.now rest.now end) }
+        ensures ok { (end : ℕ)
+            → IfOk result (λ rest. ReadsOn self.old self.new text.now rest.now end) }
         ensures less { IfOk result (λ rest. length rest.now < length text.now) }
         ensures fault { (end : ℕ) → IfErr result (λ e. FaultsOn self.old text.now end e) }
     {
@@ -329,7 +335,8 @@ impl Reader<'_> {
         requires ready { IsReading self.old }
         requires part { self.old.part ≡ Part.Instruction question }
         requires some { 0 < length text.now }
-        ensures ok { (end : ℕ) → IfOk result (λ rest. ReadsOn self.old self.new text.now rest.now end) }
+        ensures ok { (end : ℕ)
+            → IfOk result (λ rest. ReadsOn self.old self.new text.now rest.now end) }
         ensures less { IfOk result (λ rest. length rest.now < length text.now) }
         ensures fault { (end : ℕ) → IfErr result (λ e. FaultsOn self.old text.now end e) }
     {
@@ -353,7 +360,8 @@ impl Reader<'_> {
         requires ready { IsReading self.old }
         requires part { self.old.part ≡ Part.Cdata brackets }
         requires some { 0 < length text.now }
-        ensures ok { (end : ℕ) → IfOk result (λ rest. ReadsOn self.old self.new text.now rest.now end) }
+        ensures ok { (end : ℕ)
+            → IfOk result (λ rest. ReadsOn self.old self.new text.now rest.now end) }
         ensures less { IfOk result (λ rest. length rest.now < length text.now) }
         ensures fault { (end : ℕ) → IfErr result (λ e. FaultsOn self.old text.now end e) }
     {
@@ -377,7 +385,10 @@ impl Reader<'_> {
 
     /// Ends a CDATA section that ends with so many closing brackets and these characters.
     fn end_cdata(&mut self, inside: &str, brackets: u8)
-        ensures elements { TakesText (t.is_white_space_only (take ((brackets + length inside.now) - 3) (replicate brackets 0x5D ++ inside.now))) self.old.elements self.new.elements }
+        ensures elements { TakesText
+            (t.is_white_space_only
+            (take ((brackets + length inside.now) - 3)
+            (replicate brackets 0x5D ++ inside.now))) self.old.elements self.new.elements }
         ensures phase { self.new.phase ≡ self.old.phase }
         ensures part { self.new.part ≡ Part.Between }
     {

@@ -75,7 +75,8 @@ fn behind_number_sign(next: char) -> Referred
 
 /// What the character behind some digits makes of a reference.
 fn behind_digits(number: Number, next: char) -> Referred
-    ensures { TellsReferred result (scan.referred_next (scan.digits number.base number.value) next) }
+    ensures { TellsReferred result
+        (scan.referred_next (scan.digits number.base number.value) next) }
 {
     if next == ';' {
         return match number.character() {
@@ -91,7 +92,8 @@ fn behind_digits(number: Number, next: char) -> Referred
 
 /// The character for which the entity with this name stands.
 fn character_of(name: Word) -> Option<char>
-    ensures { (written : List ℕ) → known name.count name.bytes ≡ kept written → result ≡ xml.predefined written }
+    ensures { (written : List ℕ) → known name.count name.bytes ≡ kept written → result
+        ≡ xml.predefined written }
 {
     let bytes = name.bytes()?;
     match from_utf8(bytes) {
@@ -102,7 +104,8 @@ fn character_of(name: Word) -> Option<char>
 
 /// What the character behind some characters of a name makes of a reference.
 fn behind_name(name: Word, next: char) -> Referred
-    ensures { (written : List ℕ) → known name.count name.bytes ≡ kept written → TellsReferred result (scan.referred_next (scan.in_name written) next) }
+    ensures { (written : List ℕ) → known name.count name.bytes ≡ kept written
+        → TellsReferred result (scan.referred_next (scan.in_name written) next) }
 {
     if is_ncname_char(next) {
         return Referred::More(Reference::Entity(name.and(next)));
@@ -119,7 +122,8 @@ fn behind_name(name: Word, next: char) -> Referred
 impl Reference {
     /// What the next character makes of it.
     pub(crate) fn next(self, next: char) -> Referred
-        ensures { (state : scan.Referring) → IsReferring self state → TellsReferred result (scan.referred_next state next) }
+        ensures { (state : scan.Referring) → IsReferring self state
+            → TellsReferred result (scan.referred_next state next) }
     {
         match self {
             Reference::Begun => behind_ampersand(next),

@@ -93,9 +93,12 @@ impl Scopes {
     /// Declares the prefix that stands at one place, and binds it to the namespace name at the other.
     pub(crate) fn declare(&mut self, names: &Room, prefix: Span, uri: Span)
         requires room { length self.old.declared.items < MOST_DECLARED }
-        requires chained { self.old.chains.chains ≡ chains_in names.now.bytes.items self.old.declared.items }
-        ensures declared { self.new.declared.items ≡ self.old.declared.items ++ record { prefix = prefix; uri = uri } ∷ [] }
-        ensures chained { self.new.chains.chains ≡ chains_in names.now.bytes.items self.new.declared.items }
+        requires chained { self.old.chains.chains
+            ≡ chains_in names.now.bytes.items self.old.declared.items }
+        ensures declared { self.new.declared.items ≡ self.old.declared.items
+            ++ record { prefix = prefix; uri = uri } ∷ [] }
+        ensures chained { self.new.chains.chains
+            ≡ chains_in names.now.bytes.items self.new.declared.items }
     {
         let chain = chain_of(prefix.of(names.bytes()), &[]);
         if self.declared.push(Declared { prefix, uri }).is_ok() {
@@ -105,8 +108,10 @@ impl Scopes {
 
     /// The innermost declaration of a prefix.
     fn found(&self, names: &Room, prefix: &[u8]) -> Option<Declared>
-        requires chained { self.now.chains.chains ≡ chains_in names.now.bytes.items self.now.declared.items }
-        ensures { result ≡ first_such (declares names.now.bytes.items prefix.now) (reverse self.now.declared.items) }
+        requires chained { self.now.chains.chains
+            ≡ chains_in names.now.bytes.items self.now.declared.items }
+        ensures { result ≡ first_such (declares names.now.bytes.items prefix.now)
+            (reverse self.now.declared.items) }
     {
         let mut at = self.chains.newest(chain_of(prefix, &[]));
         while at > 0 {
@@ -121,8 +126,10 @@ impl Scopes {
 
     /// What a prefix is bound to by the innermost declaration.
     pub(crate) fn bound(&self, names: &Room, prefix: &[u8]) -> Option<Bound>
-        requires chained { self.now.chains.chains ≡ chains_in names.now.bytes.items self.now.declared.items }
-        ensures { bound_bytes names.now.bytes.items result ≡ bound_by (reverse self.now.declared.items) names.now.bytes.items prefix.now }
+        requires chained { self.now.chains.chains
+            ≡ chains_in names.now.bytes.items self.now.declared.items }
+        ensures { bound_bytes names.now.bytes.items result
+            ≡ bound_by (reverse self.now.declared.items) names.now.bytes.items prefix.now }
     {
         match self.found(names, prefix) {
             Some(declared) => {

@@ -16,8 +16,10 @@ impl Reader<'_> {
     /// The fault of a text that has come to its end, or to what is no character of XML, at a place.
     pub(crate) fn stopped(&mut self, place: u32) -> StreamFault
         requires low { place ≤ 67108864 }
-        ensures { (x : g.Grammar) (chars r : List ℕ) → ReadsTo x self.old chars → length chars ≡ place → BeginsNoChar r
-            → (self.old.part ≡ Part.Between → self.old.phase ≡ Phase.End → r ≢ []) → IsFaultOf (chars ++ r) result }
+        ensures { (x : g.Grammar) (chars r : List ℕ) → ReadsTo x self.old chars → length chars
+            ≡ place → BeginsNoChar r
+            → (self.old.part ≡ Part.Between → self.old.phase ≡ Phase.End → r ≢ [])
+            → IsFaultOf (chars ++ r) result }
     {
         match self.part {
             Part::Tag(_) => self.fault_of_tag(),
@@ -28,7 +30,8 @@ impl Reader<'_> {
 
     /// Where reading stops if the text ends at a place, but for a start tag whose name stands.
     fn stop(&self, place: u32) -> u32
-        ensures { (x : g.Grammar) (chars : List ℕ) → ReadsTo x self.now chars → length chars ≡ place → result ≤ length chars }
+        ensures { (x : g.Grammar) (chars : List ℕ) → ReadsTo x self.now chars → length chars
+            ≡ place → result ≤ length chars }
     {
         match self.part {
             Part::Between => place,

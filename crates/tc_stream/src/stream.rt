@@ -60,7 +60,8 @@ impl<'h> Stream<'h> {
     ) -> Result<Stream<'h>, NoMemory>
         requires { a.states auto.now ≤ 512 }
         ensures none { IfOk result (λ r. (fed_of r ≡ 0) × (fault_found r ≡ None)) }
-        ensures stands { IfOk result (λ r. (x other : g.Grammar) (sheet : sh.Sheet) → a.Stands s.input x auto.now → IsStart x.start
+        ensures stands { IfOk result (λ r. (x other : g.Grammar) (sheet : sh.Sheet)
+            → a.Stands s.input x auto.now → IsStart x.start
             → alphabet.now ≡ symbols_of x other sheet → StandsFor x r []) }
     {
         let reader = Reader::new(alloc, auto, alphabet)?;
@@ -76,8 +77,10 @@ impl<'h> Stream<'h> {
     fn advance(&mut self, piece: &[u8]) -> Result<(), StreamFault>
         requires none { fault_found self.old ≡ None }
         requires room { fed_of self.old + length piece.now ≤ 67108864 }
-        ensures ok { (x : g.Grammar) (text : List ℕ) → StandsFor x self.old text → OnOk result (StandsFor x self.new (text ++ piece.now)) }
-        ensures fault { (x : g.Grammar) (text : List ℕ) → StandsFor x self.old text → IfErr result (λ e. IsFaultOfFront (text ++ piece.now) e) }
+        ensures ok { (x : g.Grammar) (text : List ℕ) → StandsFor x self.old text
+            → OnOk result (StandsFor x self.new (text ++ piece.now)) }
+        ensures fault { (x : g.Grammar) (text : List ℕ) → StandsFor x self.old text
+            → IfErr result (λ e. IsFaultOfFront (text ++ piece.now) e) }
         ensures kept { IfErr result (λ e. fault_found self.new ≡ Some e) }
         ensures fed_ok { OnOk result (fed_of self.new ≡ fed_of self.old + length piece.now) }
         ensures fed_err { OnErr result (fed_of self.new ≡ fed_of self.old) }
@@ -103,11 +106,15 @@ impl<'h> Stream<'h> {
     /// answers the same.
     pub fn feed(&mut self, piece: &[u8]) -> Result<(), StreamFault>
         requires { fed_of self.old + length piece.now ≤ 67108864 }
-        ensures ok { OnOk result ((x : g.Grammar) (text : List ℕ) → StandsFor x self.old text → StandsFor x self.new (text ++ piece.now)) }
-        ensures fault { IfErr result (λ e. (x : g.Grammar) (text : List ℕ) → StandsFor x self.old text → IsFaultOfFront (text ++ piece.now) e) }
-        ensures hopeless { OnErr result ((x : g.Grammar) (text : List ℕ) → StandsFor x self.old text → IsHopeless (text ++ piece.now)) }
+        ensures ok { OnOk result ((x : g.Grammar) (text : List ℕ) → StandsFor x self.old text
+            → StandsFor x self.new (text ++ piece.now)) }
+        ensures fault { IfErr result (λ e. (x : g.Grammar) (text : List ℕ)
+            → StandsFor x self.old text → IsFaultOfFront (text ++ piece.now) e) }
+        ensures hopeless { OnErr result ((x : g.Grammar) (text : List ℕ)
+            → StandsFor x self.old text → IsHopeless (text ++ piece.now)) }
         ensures kept { IfErr result (λ e. fault_found self.new ≡ Some e) }
-        ensures none { OnErr result ((x : g.Grammar) (text : List ℕ) → StandsFor x self.new text → ⊥) }
+        ensures none { OnErr result
+            ((x : g.Grammar) (text : List ℕ) → StandsFor x self.new text → ⊥) }
         ensures again { (e : StreamFault) → fault_found self.old ≡ Some e → result ≡ Err e }
         ensures fed_ok { OnOk result (fed_of self.new ≡ fed_of self.old + length piece.now) }
         ensures fed_err { OnErr result (fed_of self.new ≡ fed_of self.old) }
@@ -121,7 +128,8 @@ impl<'h> Stream<'h> {
     /// How many bytes the pieces have that were taken without a fault.
     pub fn fed(&self) -> u32
         ensures here { result ≡ fed_of self.now }
-        ensures text { (x : g.Grammar) (text : List ℕ) → StandsFor x self.now text → result ≡ length text }
+        ensures text { (x : g.Grammar) (text : List ℕ) → StandsFor x self.now text → result
+            ≡ length text }
     {
         self.fed
     }
@@ -134,13 +142,19 @@ impl<'h> Stream<'h> {
     pub fn finish(self) -> Result<bool, StreamFault>
         ensures ok { IfOk result (λ b. (x : g.Grammar) (text : List ℕ) → StandsFor x self.entry text
             → (h : RawTrees) × IsGood text h × (IsTrue b ↔ IsValid x (stripped h))) }
-        ensures good { (x : g.Grammar) (text : List ℕ) (h : RawTrees) → StandsFor x self.entry text → IsGood text h → IsOk result }
-        ensures fault { IfErr result (λ e. (x : g.Grammar) (text : List ℕ) → StandsFor x self.entry text → IsFaultOf text e) }
-        ensures passed { (x : g.Grammar) (text : List ℕ) (measure : Measure) (place : ℕ) → StandsFor x self.entry text
+        ensures good { (x : g.Grammar) (text : List ℕ) (h : RawTrees) → StandsFor x self.entry text
+            → IsGood text h → IsOk result }
+        ensures fault { IfErr result (λ e. (x : g.Grammar) (text : List ℕ)
+            → StandsFor x self.entry text → IsFaultOf text e) }
+        ensures passed { (x : g.Grammar) (text : List ℕ) (measure : Measure) (place : ℕ)
+            → StandsFor x self.entry text
             → PassesFirst text measure place → result ≡ Err (limit_of measure) }
-        ensures limit { (x : g.Grammar) (text : List ℕ) (h : RawTrees) → StandsFor x self.entry text → XmlText text h → IfErr result IsLimit }
-        ensures refused { (x : g.Grammar) (text : List ℕ) (cause : Cause) (place : ℕ) → StandsFor x self.entry text
-            → XmlTextRefuses text cause place → IsWithinMeasures text → result ≡ Err (fault_by cause place) }
+        ensures limit { (x : g.Grammar) (text : List ℕ) (h : RawTrees)
+            → StandsFor x self.entry text → XmlText text h → IfErr result IsLimit }
+        ensures refused { (x : g.Grammar) (text : List ℕ) (cause : Cause) (place : ℕ)
+            → StandsFor x self.entry text
+            → XmlTextRefuses text cause place → IsWithinMeasures text → result
+            ≡ Err (fault_by cause place) }
         ensures again { (e : StreamFault) → fault_found self.entry ≡ Some e → result ≡ Err e }
     {
         let Stream {

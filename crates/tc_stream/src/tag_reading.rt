@@ -103,10 +103,15 @@ fn enter(elements: &mut Elements<'_>, tag: &str, form: &Form, begun: u32) -> Res
     requires ready { IsReady elements.old }
     requires room { length elements.old.levels.items < 2000 }
     requires short { length tag.now ≤ 65536 }
-    requires written { (e : WrittenElement) × FormRead tag.now form.now e × AreWritten tag.now elements.old.rooms.attributes.list.items e.attributes }
+    requires written { (e : WrittenElement) × FormRead tag.now form.now e
+        × AreWritten tag.now elements.old.rooms.attributes.list.items e.attributes }
     ensures ready { IfOk result (λ _. IsReady elements.new) }
-    ensures ok { (x : g.Grammar) (chars : List ℕ) → IsStartTag tag.now → TagStands x elements.old begun tag.now chars → IfOk result (λ _. StandsBehind x elements.new chars) }
-    ensures fault { (x : g.Grammar) (chars : List ℕ) → IsStartTag tag.now → TagStands x elements.old begun tag.now chars → IfErr result (λ e. IsFaultOfFront chars e) }
+    ensures ok { (x : g.Grammar) (chars : List ℕ) → IsStartTag tag.now
+        → TagStands x elements.old begun tag.now chars
+        → IfOk result (λ _. StandsBehind x elements.new chars) }
+    ensures fault { (x : g.Grammar) (chars : List ℕ) → IsStartTag tag.now
+        → TagStands x elements.old begun tag.now chars
+        → IfErr result (λ e. IsFaultOfFront chars e) }
 {
     match elements.start(tag, form) {
         Ok(()) => Ok(()),
@@ -121,8 +126,12 @@ fn start(elements: &mut Elements<'_>, tag: &str, begun: u32) -> Result<(), Strea
     requires low { begun ≤ 67108864 }
     requires short { length tag.now ≤ 65536 }
     ensures ready { IfOk result (λ _. IsReady elements.new) }
-    ensures ok { (x : g.Grammar) (chars : List ℕ) → IsStartTag tag.now → TagStands x elements.old begun tag.now chars → IfOk result (λ _. StandsBehind x elements.new chars) }
-    ensures fault { (x : g.Grammar) (chars : List ℕ) → IsStartTag tag.now → TagStands x elements.old begun tag.now chars → length elements.old.levels.items < 2000 → IfErr result (λ e. IsFaultOfFront chars e) }
+    ensures ok { (x : g.Grammar) (chars : List ℕ) → IsStartTag tag.now
+        → TagStands x elements.old begun tag.now chars
+        → IfOk result (λ _. StandsBehind x elements.new chars) }
+    ensures fault { (x : g.Grammar) (chars : List ℕ) → IsStartTag tag.now
+        → TagStands x elements.old begun tag.now chars → length elements.old.levels.items < 2000
+        → IfErr result (λ e. IsFaultOfFront chars e) }
 {
     if elements.is_full() {
         return Err(StreamFault::TooDeep(Place(begun)));
@@ -138,8 +147,12 @@ fn end(elements: &mut Elements<'_>, tag: &str, begun: u32) -> Result<(), StreamF
     requires ready { IsReady elements.old }
     requires short { length tag.now ≤ 65536 }
     ensures ready { IfOk result (λ _. IsReady elements.new) }
-    ensures ok { (x : g.Grammar) (chars : List ℕ) → IsEndTag tag.now → (t : TagStands x elements.old begun tag.now chars) → t.ls ≢ [] → IfOk result (λ _. StandsBehind x elements.new chars) }
-    ensures fault { (x : g.Grammar) (chars : List ℕ) → IsEndTag tag.now → (t : TagStands x elements.old begun tag.now chars) → t.ls ≢ [] → IfErr result (λ e. IsFaultOfFront chars e) }
+    ensures ok { (x : g.Grammar) (chars : List ℕ) → IsEndTag tag.now
+        → (t : TagStands x elements.old begun tag.now chars) → t.ls ≢ []
+        → IfOk result (λ _. StandsBehind x elements.new chars) }
+    ensures fault { (x : g.Grammar) (chars : List ℕ) → IsEndTag tag.now
+        → (t : TagStands x elements.old begun tag.now chars) → t.ls ≢ []
+        → IfErr result (λ e. IsFaultOfFront chars e) }
 {
     if !is_end_tag(tag, elements.name()) {
         return Err(StreamFault::Malformed(Place(begun)));
@@ -151,7 +164,8 @@ fn end(elements: &mut Elements<'_>, tag: &str, begun: u32) -> Result<(), StreamF
 impl Reader<'_> {
     /// The fault of the start tag or empty-element tag that is kept, of which no more comes.
     pub(crate) fn fault_of_tag(&mut self) -> StreamFault
-        ensures { (x : g.Grammar) (chars r : List ℕ) (quote : Option ℕ) → ReadsTo x self.old chars → self.old.part ≡ Part.Tag quote → BeginsNoChar r → IsFaultOf (chars ++ r) result }
+        ensures { (x : g.Grammar) (chars r : List ℕ) (quote : Option ℕ) → ReadsTo x self.old chars
+            → self.old.part ≡ Part.Tag quote → BeginsNoChar r → IsFaultOf (chars ++ r) result }
     {
         let tag = characters(self.tag.bytes());
         tag_fault(&mut self.elements, tag, self.begun)
@@ -161,7 +175,8 @@ impl Reader<'_> {
     fn leave_tag(&mut self)
         ensures elements { self.new.elements ≡ self.old.elements }
         ensures part { self.new.part ≡ Part.Between }
-        ensures inside { (self.old.elements.levels.items ≡ [] → ⊥) → self.new.phase ≡ Phase.Content }
+        ensures inside { (self.old.elements.levels.items ≡ [] → ⊥) → self.new.phase
+            ≡ Phase.Content }
         ensures outside { self.old.elements.levels.items ≡ [] → self.new.phase ≡ Phase.End }
     {
         self.part = Part::Between;
@@ -177,9 +192,11 @@ impl Reader<'_> {
         requires { IsReading self.old }
         ensures ready { IfOk result (λ _. IsReading self.new) }
         ensures rest { IfOk result (λ rest. rest.now ≡ []) }
-        ensures ok { (x : g.Grammar) (chars : List ℕ) (within : Option ℕ) → self.old.part ≡ Part.Tag within → tag_scan within text.now ≡ quoted quote → IsChars text.now
+        ensures ok { (x : g.Grammar) (chars : List ℕ) (within : Option ℕ) → self.old.part
+            ≡ Part.Tag within → tag_scan within text.now ≡ quoted quote → IsChars text.now
             → ReadsTo x self.old chars → IfOk result (λ _. ReadsTo x self.new (chars ++ text.now)) }
-        ensures fault { (x : g.Grammar) (chars : List ℕ) (within : Option ℕ) → self.old.part ≡ Part.Tag within → tag_scan within text.now ≡ quoted quote → IsChars text.now
+        ensures fault { (x : g.Grammar) (chars : List ℕ) (within : Option ℕ) → self.old.part
+            ≡ Part.Tag within → tag_scan within text.now ≡ quoted quote → IsChars text.now
             → ReadsTo x self.old chars → IfErr result (λ e. IsFaultOfFront (chars ++ text.now) e) }
     {
         if !self.tag.push_str(text) {
@@ -193,10 +210,13 @@ impl Reader<'_> {
     fn start_kept(&mut self) -> Result<(), StreamFault>
         requires { IsReading self.old }
         ensures ready { IfOk result (λ _. IsReading self.new) }
-        ensures ok { (x : g.Grammar) (chars : List ℕ) → IsStartTag self.old.tag.bytes.items → TagStands x self.old.elements self.old.begun self.old.tag.bytes.items chars
+        ensures ok { (x : g.Grammar) (chars : List ℕ) → IsStartTag self.old.tag.bytes.items
+            → TagStands x self.old.elements self.old.begun self.old.tag.bytes.items chars
             → IfOk result (λ _. ReadsTo x self.new chars) }
-        ensures fault { (x : g.Grammar) (chars : List ℕ) → IsStartTag self.old.tag.bytes.items → TagStands x self.old.elements self.old.begun self.old.tag.bytes.items chars
-            → length self.old.elements.levels.items < 2000 → IfErr result (λ e. IsFaultOfFront chars e) }
+        ensures fault { (x : g.Grammar) (chars : List ℕ) → IsStartTag self.old.tag.bytes.items
+            → TagStands x self.old.elements self.old.begun self.old.tag.bytes.items chars
+            → length self.old.elements.levels.items < 2000
+            → IfErr result (λ e. IsFaultOfFront chars e) }
     {
         let tag = characters(self.tag.bytes());
         start(&mut self.elements, tag, self.begun)?;
@@ -211,9 +231,12 @@ impl Reader<'_> {
         requires cut { IsCharBoundary text.now count }
         ensures ready { IfOk result (λ _. IsReading self.new) }
         ensures rest { IfOk result (λ rest. rest.now ≡ drop count text.now) }
-        ensures ok { (x : g.Grammar) (chars : List ℕ) (within : Option ℕ) → self.old.part ≡ Part.Tag within → tag_scan within (take count text.now) ≡ ended [] → IsChars text.now
-            → ReadsTo x self.old chars → IfOk result (λ _. ReadsTo x self.new (chars ++ take count text.now)) }
-        ensures fault { (x : g.Grammar) (chars : List ℕ) (within : Option ℕ) → self.old.part ≡ Part.Tag within → tag_scan within (take count text.now) ≡ ended [] → IsChars text.now
+        ensures ok { (x : g.Grammar) (chars : List ℕ) (within : Option ℕ) → self.old.part
+            ≡ Part.Tag within → tag_scan within (take count text.now) ≡ ended [] → IsChars text.now
+            → ReadsTo x self.old chars
+            → IfOk result (λ _. ReadsTo x self.new (chars ++ take count text.now)) }
+        ensures fault { (x : g.Grammar) (chars : List ℕ) (within : Option ℕ) → self.old.part
+            ≡ Part.Tag within → tag_scan within (take count text.now) ≡ ended [] → IsChars text.now
             → ReadsTo x self.old chars → IfErr result (λ e. IsFaultOfFront (chars ++ text.now) e) }
     {
         let (front, rest) = text.split_at(count);
@@ -233,7 +256,8 @@ impl Reader<'_> {
         requires ready { IsReading self.old }
         requires part { self.old.part ≡ Part.Tag quote }
         requires some { 0 < length text.now }
-        ensures ok { (end : ℕ) → IfOk result (λ rest. ReadsOn self.old self.new text.now rest.now end) }
+        ensures ok { (end : ℕ)
+            → IfOk result (λ rest. ReadsOn self.old self.new text.now rest.now end) }
         ensures fault { (end : ℕ) → IfErr result (λ e. FaultsOn self.old text.now end e) }
         ensures less { IfOk result (λ rest. length rest.now < length text.now) }
     {
@@ -248,9 +272,11 @@ impl Reader<'_> {
         requires { IsReading self.old }
         ensures ready { IfOk result (λ _. IsReading self.new) }
         ensures rest { IfOk result (λ rest. rest.now ≡ []) }
-        ensures ok { (x : g.Grammar) (chars : List ℕ) → self.old.part ≡ Part.EndTag → Lacks (0x3E ∷ []) text.now → IsChars text.now
+        ensures ok { (x : g.Grammar) (chars : List ℕ) → self.old.part ≡ Part.EndTag
+            → Lacks (0x3E ∷ []) text.now → IsChars text.now
             → ReadsTo x self.old chars → IfOk result (λ _. ReadsTo x self.new (chars ++ text.now)) }
-        ensures fault { (x : g.Grammar) (chars : List ℕ) → self.old.part ≡ Part.EndTag → Lacks (0x3E ∷ []) text.now → IsChars text.now
+        ensures fault { (x : g.Grammar) (chars : List ℕ) → self.old.part ≡ Part.EndTag
+            → Lacks (0x3E ∷ []) text.now → IsChars text.now
             → ReadsTo x self.old chars → IfErr result (λ e. IsFaultOfFront (chars ++ text.now) e) }
     {
         if self.tag.push_str(text) {
@@ -264,9 +290,13 @@ impl Reader<'_> {
     fn end_kept(&mut self) -> Result<(), StreamFault>
         requires { IsReading self.old }
         ensures ready { IfOk result (λ _. IsReading self.new) }
-        ensures ok { (x : g.Grammar) (chars : List ℕ) → IsEndTag self.old.tag.bytes.items → (t : TagStands x self.old.elements self.old.begun self.old.tag.bytes.items chars) → t.ls ≢ []
+        ensures ok { (x : g.Grammar) (chars : List ℕ) → IsEndTag self.old.tag.bytes.items
+            → (t : TagStands x self.old.elements self.old.begun self.old.tag.bytes.items chars)
+            → t.ls ≢ []
             → IfOk result (λ _. ReadsTo x self.new chars) }
-        ensures fault { (x : g.Grammar) (chars : List ℕ) → IsEndTag self.old.tag.bytes.items → (t : TagStands x self.old.elements self.old.begun self.old.tag.bytes.items chars) → t.ls ≢ []
+        ensures fault { (x : g.Grammar) (chars : List ℕ) → IsEndTag self.old.tag.bytes.items
+            → (t : TagStands x self.old.elements self.old.begun self.old.tag.bytes.items chars)
+            → t.ls ≢ []
             → IfErr result (λ e. IsFaultOfFront chars e) }
     {
         let tag = characters(self.tag.bytes());
@@ -279,9 +309,11 @@ impl Reader<'_> {
     fn end_of_end(&mut self, text: &str) -> Result<(), StreamFault>
         requires { IsReading self.old }
         ensures ready { IfOk result (λ _. IsReading self.new) }
-        ensures ok { (x : g.Grammar) (chars front : List ℕ) → self.old.part ≡ Part.EndTag → text.now ≡ front ++ 0x3E ∷ [] → Lacks (0x3E ∷ []) front → IsChars text.now
+        ensures ok { (x : g.Grammar) (chars front : List ℕ) → self.old.part ≡ Part.EndTag
+            → text.now ≡ front ++ 0x3E ∷ [] → Lacks (0x3E ∷ []) front → IsChars text.now
             → ReadsTo x self.old chars → IfOk result (λ _. ReadsTo x self.new (chars ++ text.now)) }
-        ensures fault { (x : g.Grammar) (chars front : List ℕ) → self.old.part ≡ Part.EndTag → text.now ≡ front ++ 0x3E ∷ [] → Lacks (0x3E ∷ []) front → IsChars text.now
+        ensures fault { (x : g.Grammar) (chars front : List ℕ) → self.old.part ≡ Part.EndTag
+            → text.now ≡ front ++ 0x3E ∷ [] → Lacks (0x3E ∷ []) front → IsChars text.now
             → ReadsTo x self.old chars → IfErr result (λ e. IsFaultOfFront (chars ++ text.now) e) }
     {
         if self.tag.push_str(text) {
@@ -296,7 +328,8 @@ impl Reader<'_> {
         requires ready { IsReading self.old }
         requires part { self.old.part ≡ Part.EndTag }
         requires some { 0 < length text.now }
-        ensures ok { (end : ℕ) → IfOk result (λ rest. ReadsOn self.old self.new text.now rest.now end) }
+        ensures ok { (end : ℕ)
+            → IfOk result (λ rest. ReadsOn self.old self.new text.now rest.now end) }
         ensures fault { (end : ℕ) → IfErr result (λ e. FaultsOn self.old text.now end e) }
         ensures less { IfOk result (λ rest. length rest.now < length text.now) }
     {

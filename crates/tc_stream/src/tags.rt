@@ -60,7 +60,8 @@ fn colon_len(prefix: &str) -> usize
 fn spans(total: usize, text: &str, name: QualifiedName<'_>) -> WrittenName
     requires within { length text.now ≤ total }
     requires named { (after : List ℕ) × xml_names.QNameAt text.now (written_name name) after }
-    ensures { (front : List ℕ) → length front + length text.now ≡ total → IsNameAt (front ++ text.now) result (written_name name.entry) }
+    ensures { (front : List ℕ) → length front + length text.now ≡ total
+        → IsNameAt (front ++ text.now) result (written_name name.entry) }
 {
     let start = total - text.len();
     let prefix = Span {
@@ -79,7 +80,10 @@ fn spans(total: usize, text: &str, name: QualifiedName<'_>) -> WrittenName
 fn name_at(total: usize, text: &str) -> Result<(QualifiedName<'_>, &str), NoForm>
     requires { length text.now ≤ total }
     ensures ok { IfOk result (λ r. xml_names.QNameAt text.now (written_name r.0) r.1.now) }
-    ensures no { IfErr result (λ e. IsStop e × ((name : xml_names.QualifiedName) (after : List ℕ) → xml_names.QNameAt text.now name after → ⊥)) }
+    ensures no { IfErr result
+        (λ e. IsStop e
+        × ((name : xml_names.QualifiedName) (after : List ℕ)
+        → xml_names.QNameAt text.now name after → ⊥)) }
 {
     match qname(text) {
         Some(found) => Ok(found),
@@ -98,11 +102,14 @@ fn is_xml_space(name: &QualifiedName<'_>) -> bool
 fn after_piece(total: usize, text: &str, quote: u8) -> Result<&str, NoForm>
     requires within { length text.now ≤ total }
     requires is_quote { bytes.IsQuote quote }
-    ensures ok { IfOk result (λ rest. (piece : List ℕ) × PieceAt false quote text.now piece rest.now) }
+    ensures ok { IfOk result
+        (λ rest. (piece : List ℕ) × PieceAt false quote text.now piece rest.now) }
     ensures no { IfErr result (λ e. Refuses e
         ((piece rest : List ℕ) → PieceAt true quote text.now piece rest → ⊥)
         ((piece rest : List ℕ) → PieceAt false quote text.now piece rest → ⊥)) }
-    ensures stands { IfErr result (λ e. UnsupportedAt total e (λ why at. (why ≡ EntityReference) × (at ≡ text.now) × refusals.OtherEntityAt at)) }
+    ensures stands { IfErr result
+        (λ e. UnsupportedAt total e
+        (λ why at. (why ≡ EntityReference) × (at ≡ text.now) × refusals.OtherEntityAt at)) }
 {
     let count = plain_len_within(text, quote);
     if count > 0 {
@@ -121,12 +128,16 @@ fn after_piece(total: usize, text: &str, quote: u8) -> Result<&str, NoForm>
 /// Where the value in quotes at the front begins, its quote, and what follows it.
 fn value_at(total: usize, text: &str) -> Result<(usize, u8, &str), NoForm>
     requires { length text.now ≤ total }
-    ensures ok { IfOk result (λ r. (value : List ℕ) × ValueRead total text.now r.0 r.1 value r.2.now) }
+    ensures ok { IfOk result
+        (λ r. (value : List ℕ) × ValueRead total text.now r.0 r.1 value r.2.now) }
     ensures no { IfErr result (λ e. Refuses e
         ((v after : List ℕ) → references.QuotedAt true text.now v after → ⊥)
         ((v after : List ℕ) → references.QuotedAt false text.now v after → ⊥)) }
-    ensures stands { IfErr result (λ e. UnsupportedAt total e (λ why at. (why ≡ EntityReference) × refusals.QuotedRefuses text.now at)) }
-    ensures malformed { IfErr result (λ e. OnMalformed e ((at : List ℕ) → refusals.QuotedRefuses text.now at → ⊥)) }
+    ensures stands { IfErr result
+        (λ e. UnsupportedAt total e
+        (λ why at. (why ≡ EntityReference) × refusals.QuotedRefuses text.now at)) }
+    ensures malformed { IfErr result
+        (λ e. OnMalformed e ((at : List ℕ) → refusals.QuotedRefuses text.now at → ⊥)) }
 {
     let Some((quote, inside)) = quote(text) else {
         return Err(lacking(total, text));
@@ -144,13 +155,20 @@ fn value_at(total: usize, text: &str) -> Result<(usize, u8, &str), NoForm>
 #[tactic(auto, using(crate::proofs::FormLaws::within))]
 fn attribute_at(total: usize, text: &str) -> Result<(Attribute, &str), NoForm>
     requires { length text.now ≤ total }
-    ensures ok { IfOk result (λ r. (w : scopes.WrittenAttribute) × AttributeAt false total text.now w r.1.now
-        × ((front : List ℕ) → length front + length text.now ≡ total → IsUtf8 (front ++ text.now) → IsWritten (front ++ text.now) r.0 w)) }
+    ensures ok { IfOk result
+        (λ r. (w : scopes.WrittenAttribute) × AttributeAt false total text.now w r.1.now
+        × ((front : List ℕ) → length front + length text.now ≡ total → IsUtf8 (front ++ text.now)
+        → IsWritten (front ++ text.now) r.0 w)) }
     ensures no { IfErr result (λ e. Refuses e
-        ((w : scopes.WrittenAttribute) (after : List ℕ) → AttributeAt true total text.now w after → ⊥)
-        ((w : scopes.WrittenAttribute) (after : List ℕ) → AttributeAt false total text.now w after → ⊥)) }
-    ensures stands { IfErr result (λ e. UnsupportedAt total e (refusals.AttributesRefuse text.now)) }
-    ensures malformed { IfErr result (λ e. OnMalformed e ((why : Reason) (at : List ℕ) → refusals.AttributesRefuse text.now why at → ⊥)) }
+        ((w : scopes.WrittenAttribute) (after : List ℕ) → AttributeAt true total text.now w after
+        → ⊥)
+        ((w : scopes.WrittenAttribute) (after : List ℕ) → AttributeAt false total text.now w after
+        → ⊥)) }
+    ensures stands { IfErr result
+        (λ e. UnsupportedAt total e (refusals.AttributesRefuse text.now)) }
+    ensures malformed { IfErr result
+        (λ e. OnMalformed e
+        ((why : Reason) (at : List ℕ) → refusals.AttributesRefuse text.now why at → ⊥)) }
 {
     let Some(start) = after_some_white(text) else {
         return Err(lacking(total, text));
@@ -182,7 +200,8 @@ fn ends_tag(text: &str) -> bool
 
 /// Whether a tag is that of an empty element by how it ends, if that ends one.
 fn ends_empty(end: &str) -> Option<bool>
-    ensures { MatchOption result ((end.now ≡ codes ">" → ⊥) × (end.now ≡ codes "/>" → ⊥)) (λ is_empty. end.now ≡ (if is_empty then codes "/>" else codes ">")) }
+    ensures { MatchOption result ((end.now ≡ codes ">" → ⊥) × (end.now ≡ codes "/>" → ⊥))
+        (λ is_empty. end.now ≡ (if is_empty then codes "/>" else codes ">")) }
 {
     if end == ">" {
         return Some(false);
@@ -195,8 +214,13 @@ fn ends_empty(end: &str) -> Option<bool>
 
 /// The name at the front of a start tag or an empty-element tag, and what follows it.
 fn tag_name(tag: &str) -> Result<(WrittenName, &str), NoForm>
-    ensures ok { IfOk result (λ r. (start : List ℕ) × (name : xml_names.QualifiedName) × (tag.now ≡ 0x3C ∷ start) × xml_names.QNameAt start name r.1.now × IsNameAt tag.now r.0 name) }
-    ensures no { IfErr result (λ e. IsStop e × ((start : List ℕ) (name : xml_names.QualifiedName) (after : List ℕ) → tag.now ≡ 0x3C ∷ start → xml_names.QNameAt start name after → ⊥)) }
+    ensures ok { IfOk result
+        (λ r. (start : List ℕ) × (name : xml_names.QualifiedName) × (tag.now ≡ 0x3C ∷ start)
+        × xml_names.QNameAt start name r.1.now × IsNameAt tag.now r.0 name) }
+    ensures no { IfErr result
+        (λ e. IsStop e
+        × ((start : List ℕ) (name : xml_names.QualifiedName) (after : List ℕ) → tag.now
+        ≡ 0x3C ∷ start → xml_names.QNameAt start name after → ⊥)) }
 {
     let Some(start) = after_byte(tag, b'<') else {
         return Err(lacking(tag.len(), tag));
@@ -214,13 +238,20 @@ fn attributes_at<'t>(
     requires within { length text.now + 2 ≤ total }
     requires short { total ≤ LONGEST_TAG }
     requires none { attributes.old.list.items ≡ [] }
-    ensures ok { IfOk result (λ rest. (ws : List scopes.WrittenAttribute) × xml.AttributesAt false total text.now ws rest.now × IsTrue (lacks_space ws)
-        × ((front : List ℕ) → length front + length text.now ≡ total → IsUtf8 (front ++ text.now) → AreWritten (front ++ text.now) attributes.new.list.items ws)) }
+    ensures ok { IfOk result (λ rest. (ws : List scopes.WrittenAttribute)
+        × xml.AttributesAt false total text.now ws rest.now × IsTrue (lacks_space ws)
+        × ((front : List ℕ) → length front + length text.now ≡ total → IsUtf8 (front ++ text.now)
+        → AreWritten (front ++ text.now) attributes.new.list.items ws)) }
     ensures no { IfErr result (λ e. Refuses e
-        ((ws : List scopes.WrittenAttribute) (after : List ℕ) → xml.AttributesAt true total text.now ws after → IsTrue (lacks_space ws) → ⊥)
-        ((ws : List scopes.WrittenAttribute) (after : List ℕ) → xml.AttributesAt false total text.now ws after → IsTrue (lacks_space ws) → ⊥)) }
-    ensures stands { IfErr result (λ e. UnsupportedAt total e (refusals.AttributesRefuse text.now)) }
-    ensures malformed { IfErr result (λ e. OnMalformed e ((why : Reason) (at : List ℕ) → refusals.AttributesRefuse text.now why at → ⊥)) }
+        ((ws : List scopes.WrittenAttribute) (after : List ℕ)
+        → xml.AttributesAt true total text.now ws after → IsTrue (lacks_space ws) → ⊥)
+        ((ws : List scopes.WrittenAttribute) (after : List ℕ)
+        → xml.AttributesAt false total text.now ws after → IsTrue (lacks_space ws) → ⊥)) }
+    ensures stands { IfErr result
+        (λ e. UnsupportedAt total e (refusals.AttributesRefuse text.now)) }
+    ensures malformed { IfErr result
+        (λ e. OnMalformed e
+        ((why : Reason) (at : List ℕ) → refusals.AttributesRefuse text.now why at → ⊥)) }
 {
     let mut rest = text;
     while !ends_tag(after_white(rest)) {
@@ -234,15 +265,19 @@ fn attributes_at<'t>(
 /// A start tag or an empty-element tag by its form, whose attributes are left in the table.
 pub(crate) fn form_of(tag: &str, attributes: &mut Attributes) -> Result<Form, NoForm>
     requires { length tag.now ≤ LONGEST_TAG }
-    ensures ok { IfOk result (λ f. (e : WrittenElement) × FormRead tag.now f e × AreWritten tag.now attributes.new.list.items e.attributes) }
+    ensures ok { IfOk result (λ f. (e : WrittenElement) × FormRead tag.now f e
+        × AreWritten tag.now attributes.new.list.items e.attributes) }
     ensures no { IfErr result (λ x. Refuses x
         ((e : WrittenElement) → TagFormAt true (length tag.now) tag.now e (codes ">") → ⊥)
         ((e : WrittenElement) → TagFormAt false (length tag.now) tag.now e (codes ">") → ⊥)) }
     ensures no_empty { IfErr result (λ x. Refuses x
         ((e : WrittenElement) → TagFormAt true (length tag.now) tag.now e (codes "/>") → ⊥)
         ((e : WrittenElement) → TagFormAt false (length tag.now) tag.now e (codes "/>") → ⊥)) }
-    ensures stands { IfErr result (λ x. UnsupportedAt (length tag.now) x (refusals.TagRefuses tag.now)) }
-    ensures malformed { IfErr result (λ x. OnMalformed x ((why : Reason) (at : List ℕ) → refusals.TagRefuses tag.now why at → ⊥)) }
+    ensures stands { IfErr result
+        (λ x. UnsupportedAt (length tag.now) x (refusals.TagRefuses tag.now)) }
+    ensures malformed { IfErr result
+        (λ x. OnMalformed x
+        ((why : Reason) (at : List ℕ) → refusals.TagRefuses tag.now why at → ⊥)) }
 {
     attributes.clear();
     let (name, behind) = tag_name(tag)?;
@@ -256,7 +291,8 @@ pub(crate) fn form_of(tag: &str, attributes: &mut Attributes) -> Result<Form, No
 /// Whether this is the end tag of an element whose name is written so.
 #[tactic(auto, using(crate::proofs::FormLaws::within))]
 pub(crate) fn is_end_tag(tag: &str, name: &[u8]) -> bool
-    ensures { (written : xml_names.QualifiedName) → xml_names.QNameAt name.now written [] → MatchBool result (EndTagAt written tag.now []) (EndTagAt written tag.now [] → ⊥) }
+    ensures { (written : xml_names.QualifiedName) → xml_names.QNameAt name.now written []
+        → MatchBool result (EndTagAt written tag.now []) (EndTagAt written tag.now [] → ⊥) }
 {
     let Some(start) = after_mark(tag, "</") else {
         return false;

@@ -26,7 +26,8 @@ fn push_spaced(names: &mut Room, run: &str) -> bool
     ensures most { names.new.most ≡ names.old.most }
     ensures bytes { MatchBool result
         (names.new.bytes.items ≡ names.old.bytes.items ++ xml.spaced (xml_bytes.line_ends run.now))
-        (names.old.most < length names.old.bytes.items + length (xml.spaced (xml_bytes.line_ends run.now))) }
+        (names.old.most
+        < length names.old.bytes.items + length (xml.spaced (xml_bytes.line_ends run.now))) }
 {
     let mut rest = run;
     while let Some(at) = memchr3(b'\r', b'\n', b'\t', rest.as_bytes()) {
@@ -59,8 +60,10 @@ fn push_piece<'t>(names: &mut Room, text: &'t str, quote: u8) -> Option<&'t str>
     requires { xml_bytes.IsQuote quote }
     ensures most { names.new.most ≡ names.old.most }
     ensures piece { MatchOption result
-        ((piece rest : List ℕ) → PieceAt false quote text.now piece rest → names.old.most < length names.old.bytes.items + length piece)
-        (λ rest. (piece : List ℕ) × PieceAt false quote text.now piece rest.now × (names.new.bytes.items ≡ names.old.bytes.items ++ piece)) }
+        ((piece rest : List ℕ) → PieceAt false quote text.now piece rest
+        → names.old.most < length names.old.bytes.items + length piece)
+        (λ rest. (piece : List ℕ) × PieceAt false quote text.now piece rest.now
+        × (names.new.bytes.items ≡ names.old.bytes.items ++ piece)) }
 {
     let count = plain_len_within(text, quote);
     if count == 0 {
@@ -87,7 +90,8 @@ fn push_piece<'t>(names: &mut Room, text: &'t str, quote: u8) -> Option<&'t str>
 pub(crate) fn push_value(names: &mut Room, text: &str, quote: u8) -> bool
     requires { xml_bytes.IsQuote quote }
     ensures most { names.new.most ≡ names.old.most }
-    ensures bytes { (value after : List ℕ) → xml.ValueAt false quote text.now value after → MatchBool result
+    ensures bytes { (value after : List ℕ) → xml.ValueAt false quote text.now value after
+        → MatchBool result
         (names.new.bytes.items ≡ names.old.bytes.items ++ value)
         (names.old.most < length names.old.bytes.items + length value) }
 {

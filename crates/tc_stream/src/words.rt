@@ -24,7 +24,8 @@ impl Word {
 
     /// The word with one character more.
     pub(crate) fn and(self, next: char) -> Word
-        ensures { (word : List ℕ) → known self.count self.bytes ≡ kept word → known result.count result.bytes ≡ kept (word ++ encode_utf8 next) }
+        ensures { (word : List ℕ) → known self.count self.bytes ≡ kept word
+            → known result.count result.bytes ≡ kept (word ++ encode_utf8 next) }
     {
         let mut bytes = self.bytes;
         if self.count >= 8 {
@@ -42,14 +43,16 @@ impl Word {
 
     /// Its characters, where they are kept.
     pub(crate) fn bytes(&self) -> Option<&[u8]>
-        ensures { MatchOption result (known self.now.count self.now.bytes ≡ None) (λ word. known self.now.count self.now.bytes ≡ Some word.now) }
+        ensures { MatchOption result (known self.now.count self.now.bytes ≡ None)
+            (λ word. known self.now.count self.now.bytes ≡ Some word.now) }
     {
         self.bytes.get(..self.count as usize)
     }
     /// Whether it is this word, which would be kept.
     pub(crate) fn is(&self, word: &str) -> bool
         requires { kept word.now ≡ Some word.now }
-        ensures { (written : List ℕ) → known self.now.count self.now.bytes ≡ kept written → result ≡ bytes_eq written word.now }
+        ensures { (written : List ℕ) → known self.now.count self.now.bytes ≡ kept written → result
+            ≡ bytes_eq written word.now }
     {
         match self.bytes() {
             Some(bytes) => bytes == word.as_bytes(),
@@ -60,7 +63,8 @@ impl Word {
     /// Whether it is this word, which would be kept, whatever the case of their letters.
     pub(crate) fn is_in_any_case(&self, word: &str) -> bool
         requires { kept word.now ≡ Some word.now }
-        ensures { (written : List ℕ) → known self.now.count self.now.bytes ≡ kept written → result ≡ str_eq_ignore_ascii_case written word.now }
+        ensures { (written : List ℕ) → known self.now.count self.now.bytes ≡ kept written → result
+            ≡ str_eq_ignore_ascii_case written word.now }
     {
         match self.bytes() {
             Some(bytes) => bytes.eq_ignore_ascii_case(word.as_bytes()),

@@ -27,7 +27,8 @@ pub fn prove<S: Store>(
     ensures same { S.holds store.new ≡ S.holds store.old }
     ensures count { S.faults store.old ≤ S.faults store.new }
     ensures ok { IfOk result (λ said. (words : List (List ℕ))
-        → Words words (w.prove limit triple.entry.input.now triple.entry.output.now triple.entry.sheet.now)
+        → Words words
+        (w.prove limit triple.entry.input.now triple.entry.output.now triple.entry.sheet.now)
         → IsRightFor words (Happened S.read_gives S.holds S.faults store.old store.new) said) }
 {
     match read_triple(alloc, triple, store) {
@@ -46,7 +47,9 @@ pub fn verify<S: Store>(
     ensures same { S.holds store.new ≡ S.holds store.old }
     ensures count { S.faults store.old ≤ S.faults store.new }
     ensures ok { IfOk result (λ said. (words : List (List ℕ))
-        → Words words (w.verify triple.entry.input.now triple.entry.output.now triple.entry.sheet.now certificate.now)
+        → Words words
+        (w.verify triple.entry.input.now triple.entry.output.now triple.entry.sheet.now
+        certificate.now)
         → IsRightFor words (Happened S.read_gives S.holds S.faults store.old store.new) said) }
 {
     match read_verified(alloc, triple, certificate, store) {
@@ -65,7 +68,8 @@ pub fn upgrade<S: Store>(
 ) -> Result<Answer, NoMemory>
     ensures same { S.holds store.new ≡ S.holds store.old }
     ensures count { S.faults store.old ≤ S.faults store.new }
-    ensures ok { IfOk result (λ said. (words : List (List ℕ)) → Words words (w.upgrade certificate.now)
+    ensures ok { IfOk result
+        (λ said. (words : List (List ℕ)) → Words words (w.upgrade certificate.now)
         → IsRightFor words (Happened S.read_gives S.holds S.faults store.old store.new) said) }
 {
     match read_operand(alloc, Source::plain(certificate), store) {

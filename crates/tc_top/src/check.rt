@@ -33,7 +33,8 @@ pub fn check<S: Store>(
     ensures same { S.holds store.new ≡ S.holds store.old }
     ensures count { S.faults store.old ≤ S.faults store.new }
     ensures ok { IfOk result (λ said. (words : List (List ℕ))
-        → Words words (w.check limit triple.entry.input.now triple.entry.output.now triple.entry.sheet.now)
+        → Words words
+        (w.check limit triple.entry.input.now triple.entry.output.now triple.entry.sheet.now)
         → IsRightFor words (Happened S.read_gives S.holds S.faults store.old store.new) said) }
 {
     match read_triple(alloc, triple, store) {
@@ -63,8 +64,10 @@ pub(crate) fn check_texts(
     requires output { length operands.now.output.text.items ≤ longest_text }
     requires sheet { length operands.now.sheet.text.items ≤ longest_text }
     ensures { IfOk result (λ said. (answer : a.Answer) × Says said answer
-        × Checks most operands.now.input.name.now operands.now.output.name.now operands.now.sheet.name.now
-        operands.now.input.text.items operands.now.output.text.items operands.now.sheet.text.items answer) }
+        × Checks most operands.now.input.name.now operands.now.output.name.now
+        operands.now.sheet.name.now
+        operands.now.input.text.items operands.now.output.text.items operands.now.sheet.text.items
+        answer) }
 {
     let arena = Bump::new(alloc);
     let input = schema_text(&operands.input);

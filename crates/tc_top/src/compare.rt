@@ -60,7 +60,9 @@ pub fn compare_texts(
     requires first { length first.now.text.items ≤ longest_text }
     requires second { length second.now.text.items ≤ longest_text }
     ensures { IfOk result (λ said. (answer : a.Answer) × Says said answer
-        × Compares (asked question) first.now.name.now second.now.name.now first.now.text.items second.now.text.items answer) }
+        × Compares
+        (asked question) first.now.name.now second.now.name.now first.now.text.items
+        second.now.text.items answer) }
 {
     let arena = Bump::new(alloc);
     match read_operand_schema(&arena, first) {
@@ -81,7 +83,9 @@ fn compare_second<'b>(
     requires first { IsSchemaOfText first.now.name.now first.now.text.items read.now }
     requires second { length second.now.text.items ≤ longest_text }
     ensures { IfOk result (λ said. (answer : a.Answer) × Says said answer
-        × Compares (asked question) first.now.name.now second.now.name.now first.now.text.items second.now.text.items answer) }
+        × Compares
+        (asked question) first.now.name.now second.now.name.now first.now.text.items
+        second.now.text.items answer) }
 {
     match read_operand_schema(arena, second) {
         Ok(other) => compare_read(alloc, arena, question, read, &other),
@@ -124,8 +128,10 @@ fn pair_of<'b>(
 ) -> Result<Pair<'b>, LimitFault>
     requires first { IsLawful first.now }
     requires second { IsLawful second.now }
-    ensures ok { IfOk result (λ pair. (x y : g.Grammar) → IsReadOf x first.now → IsReadOf y second.now → IsPairOf x y pair) }
-    ensures err { IfErr result (λ e. (x y : g.Grammar) → IsReadOf x first.now → IsReadOf y second.now → IsCauseBy (PassesPairLimit x y) e) }
+    ensures ok { IfOk result (λ pair. (x y : g.Grammar) → IsReadOf x first.now
+        → IsReadOf y second.now → IsPairOf x y pair) }
+    ensures err { IfErr result (λ e. (x y : g.Grammar) → IsReadOf x first.now
+        → IsReadOf y second.now → IsCauseBy (PassesPairLimit x y) e) }
 {
     let one = input_automaton(alloc, first)?;
     let other = input_automaton(alloc, second)?;
@@ -143,10 +149,13 @@ fn symbols_of(
     first: &Schema<'_>,
     second: &Schema<'_>,
 ) -> Result<Alphabet, LimitFault>
-    ensures stands { IfOk result (λ symbols. (x y : g.Grammar) → IsReadOf x first.now → IsReadOf y second.now → symbols ≡ symbols_of_both x y) }
+    ensures stands { IfOk result (λ symbols. (x y : g.Grammar) → IsReadOf x first.now
+        → IsReadOf y second.now → symbols ≡ symbols_of_both x y) }
     ensures few { IfOk result (λ symbols. AreFew symbols) }
-    ensures err { IfErr result (λ e. (x y : g.Grammar) → IsReadOf x first.now → IsReadOf y second.now
-        → IsWithinLimits x input MOST_INPUT_STATES → IsWithinLimits y input MOST_INPUT_STATES → IsCauseBy (PassesPairLimit x y) e) }
+    ensures err { IfErr result
+        (λ e. (x y : g.Grammar) → IsReadOf x first.now → IsReadOf y second.now
+        → IsWithinLimits x input MOST_INPUT_STATES → IsWithinLimits y input MOST_INPUT_STATES
+        → IsCauseBy (PassesPairLimit x y) e) }
 {
     let first = grammar_within_limits(first)?;
     let second = grammar_within_limits(second)?;
@@ -162,8 +171,10 @@ impl Pair<'_> {
     /// Whether the first schema is included in the second.
     fn forth<'d>(&self, alloc: Global, arena: &'d Bump) -> Result<Cover<'d>, InclFault>
         requires pair { (x : g.Grammar) × (y : g.Grammar) × IsPairOf x y self.now }
-        ensures answer { IfOk result (λ c. (x y : g.Grammar) → IsPairOf x y self.now → IsAnswer (forward x y) MOST_ROWS c) }
-        ensures cause { IfErr result (λ e. (x y : g.Grammar) → IsPairOf x y self.now → IsCause (forward x y) MOST_ROWS e) }
+        ensures answer { IfOk result
+            (λ c. (x y : g.Grammar) → IsPairOf x y self.now → IsAnswer (forward x y) MOST_ROWS c) }
+        ensures cause { IfErr result
+            (λ e. (x y : g.Grammar) → IsPairOf x y self.now → IsCause (forward x y) MOST_ROWS e) }
     {
         included(
             arena,
@@ -178,8 +189,10 @@ impl Pair<'_> {
     /// Whether the second schema is included in the first.
     fn back<'d>(&self, alloc: Global, arena: &'d Bump) -> Result<Cover<'d>, InclFault>
         requires pair { (x : g.Grammar) × (y : g.Grammar) × IsPairOf x y self.now }
-        ensures answer { IfOk result (λ c. (x y : g.Grammar) → IsPairOf x y self.now → IsAnswer (backward x y) MOST_ROWS c) }
-        ensures cause { IfErr result (λ e. (x y : g.Grammar) → IsPairOf x y self.now → IsCause (backward x y) MOST_ROWS e) }
+        ensures answer { IfOk result
+            (λ c. (x y : g.Grammar) → IsPairOf x y self.now → IsAnswer (backward x y) MOST_ROWS c) }
+        ensures cause { IfErr result
+            (λ e. (x y : g.Grammar) → IsPairOf x y self.now → IsCause (backward x y) MOST_ROWS e) }
     {
         included(
             arena,
@@ -195,7 +208,8 @@ impl Pair<'_> {
 /// Whether the first of two schemas is included in the second.
 fn decide_inclusion(alloc: Global, arena: &Bump, pair: &Pair<'_>) -> Result<Answer, NoMemory>
     requires pair { (x : g.Grammar) × (y : g.Grammar) × IsPairOf x y pair.now }
-    ensures { IfOk result (λ said. (x y : g.Grammar) → IsPairOf x y pair.now → (answer : a.Answer) × Says said answer × FindsInclusion x y answer) }
+    ensures { IfOk result (λ said. (x y : g.Grammar) → IsPairOf x y pair.now → (answer : a.Answer)
+        × Says said answer × FindsInclusion x y answer) }
 {
     match pair.forth(alloc, arena) {
         Ok(cover) => tell_inclusion(alloc, &cover),
@@ -206,7 +220,8 @@ fn decide_inclusion(alloc: Global, arena: &Bump, pair: &Pair<'_>) -> Result<Answ
 /// Whether two schemas have the same valid documents. Both directions are decided before a document is told.
 fn decide_equality(alloc: Global, arena: &Bump, pair: &Pair<'_>) -> Result<Answer, NoMemory>
     requires pair { (x : g.Grammar) × (y : g.Grammar) × IsPairOf x y pair.now }
-    ensures { IfOk result (λ said. (x y : g.Grammar) → IsPairOf x y pair.now → (answer : a.Answer) × Says said answer × FindsEquality x y answer) }
+    ensures { IfOk result (λ said. (x y : g.Grammar) → IsPairOf x y pair.now → (answer : a.Answer)
+        × Says said answer × FindsEquality x y answer) }
 {
     match pair.forth(alloc, arena) {
         Ok(forth) => match pair.back(alloc, arena) {
@@ -230,7 +245,8 @@ fn covers_limit(alloc: Global, fault: InclFault) -> Result<Answer, NoMemory>
 
 /// The answer of `include`, by what is told of its direction.
 fn tell_inclusion(alloc: Global, forth: &Cover<'_>) -> Result<Answer, NoMemory>
-    ensures { IfOk result (λ said. (x y : g.Grammar) → AreWithinPairLimits x y → IsAnswer (forward x y) MOST_ROWS forth.now
+    ensures { IfOk result (λ said. (x y : g.Grammar) → AreWithinPairLimits x y
+        → IsAnswer (forward x y) MOST_ROWS forth.now
         → (answer : a.Answer) × Says said answer × FindsInclusion x y answer) }
 {
     match forth {
@@ -244,7 +260,8 @@ fn tell_inclusion(alloc: Global, forth: &Cover<'_>) -> Result<Answer, NoMemory>
 fn tell_equality(alloc: Global, forth: &Cover<'_>, back: &Cover<'_>) -> Result<Answer, NoMemory>
     requires forth { HasFewNodes forth.now }
     requires back { HasFewNodes back.now }
-    ensures { IfOk result (λ said. (x y : g.Grammar) → AreWithinPairLimits x y → IsAnswer (forward x y) MOST_ROWS forth.now → IsAnswer (backward x y) MOST_ROWS back.now
+    ensures { IfOk result (λ said. (x y : g.Grammar) → AreWithinPairLimits x y
+        → IsAnswer (forward x y) MOST_ROWS forth.now → IsAnswer (backward x y) MOST_ROWS back.now
         → (answer : a.Answer) × Says said answer × FindsEquality x y answer) }
 {
     match forth {
@@ -260,8 +277,10 @@ fn tell_equality(alloc: Global, forth: &Cover<'_>, back: &Cover<'_>) -> Result<A
 
 /// The answer of `same` where the first schema is included in the second.
 fn tell_second(alloc: Global, back: &Cover<'_>) -> Result<Answer, NoMemory>
-    ensures { IfOk result (λ said. (x y : g.Grammar) (trees hedges : ℕ) → AreWithinPairLimits x y → IsIncludedWith (forward x y) MOST_ROWS trees hedges
-        → IsAnswer (backward x y) MOST_ROWS back.now → (answer : a.Answer) × Says said answer × FindsEquality x y answer) }
+    ensures { IfOk result (λ said. (x y : g.Grammar) (trees hedges : ℕ) → AreWithinPairLimits x y
+        → IsIncludedWith (forward x y) MOST_ROWS trees hedges
+        → IsAnswer (backward x y) MOST_ROWS back.now → (answer : a.Answer) × Says said answer
+        × FindsEquality x y answer) }
 {
     match back {
         Cover::Included(_, _) => Ok(Answer::equal()),
@@ -275,8 +294,10 @@ fn tell_second(alloc: Global, back: &Cover<'_>) -> Result<Answer, NoMemory>
 fn tell_first(alloc: Global, first: &Node<'_>, back: &Cover<'_>) -> Result<Answer, NoMemory>
     requires first { node_count (see.before first.now none) ≤ MOST_SHOWN_NODES }
     requires back { HasFewNodes back.now }
-    ensures { IfOk result (λ said. (x y : g.Grammar) → AreWithinPairLimits x y → IsLeastPlain (forward x y) MOST_ROWS (see.before first.now none)
-        → IsAnswer (backward x y) MOST_ROWS back.now → (answer : a.Answer) × Says said answer × FindsEquality x y answer) }
+    ensures { IfOk result (λ said. (x y : g.Grammar) → AreWithinPairLimits x y
+        → IsLeastPlain (forward x y) MOST_ROWS (see.before first.now none)
+        → IsAnswer (backward x y) MOST_ROWS back.now → (answer : a.Answer) × Says said answer
+        × FindsEquality x y answer) }
 {
     match back {
         Cover::Not(second) => tell_smaller(alloc, first, second),
@@ -289,8 +310,10 @@ fn tell_first(alloc: Global, first: &Node<'_>, back: &Cover<'_>) -> Result<Answe
 fn tell_smaller(alloc: Global, first: &Node<'_>, second: &Node<'_>) -> Result<Answer, NoMemory>
     requires first { node_count (see.before first.now none) ≤ MOST_SHOWN_NODES }
     requires second { node_count (see.before second.now none) ≤ MOST_SHOWN_NODES }
-    ensures { IfOk result (λ said. (x y : g.Grammar) → AreWithinPairLimits x y → IsLeastPlain (forward x y) MOST_ROWS (see.before first.now none)
-        → IsLeastPlain (backward x y) MOST_ROWS (see.before second.now none) → (answer : a.Answer) × Says said answer × FindsEquality x y answer) }
+    ensures { IfOk result (λ said. (x y : g.Grammar) → AreWithinPairLimits x y
+        → IsLeastPlain (forward x y) MOST_ROWS (see.before first.now none)
+        → IsLeastPlain (backward x y) MOST_ROWS (see.before second.now none) → (answer : a.Answer)
+        × Says said answer × FindsEquality x y answer) }
 {
     if count_nodes(&[*second]) < count_nodes(&[*first]) {
         Answer::second_only(alloc, &[*second])

@@ -22,7 +22,8 @@ pub fn demo(alloc: Global, size: u32) -> Result<Answer, NoMemory>
     requires some { 1 ≤ size }
     requires few { size ≤ 40 }
     ensures { IfOk result (λ said. (answer : a.Answer) × Says said answer
-        × Checks MOST_ROWS input_name output_name sheet_name (demo_schema size) (demo_schema size) demo_sheet answer) }
+        × Checks MOST_ROWS input_name output_name sheet_name (demo_schema size)
+        (demo_schema size) demo_sheet answer) }
 {
     let input = schema_of(alloc, size)?;
     let output = schema_of(alloc, size)?;

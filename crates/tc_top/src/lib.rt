@@ -72,90 +72,111 @@ pub fn typecheck<S: Store, K: Sink>(
     // A call ends with an answer that is right for the words and for what was read, in order, up to the first read that
     // wasn't Ok; with such an answer broken off by a fault of writing; or, only for a command, for want of memory.
     ensures ends { Ends words.now (Happened S.read_gives S.holds S.faults store.old store.new)
-        (Rose (K.faults sink.old) (K.faults sink.new)) (K.written sink.old) (K.written sink.new) result }
+        (Rose (K.faults sink.old) (K.faults sink.new)) (K.written sink.old)
+        (K.written sink.new) result }
     ensures unwritten { result ≡ Status.NoMemory → sink.new ≡ sink.old }
 
     // Words alone decide that they are no command.
-    ensures usage { IsNoCommand words.now → IsCutShort result ⊥ ⊎ GivesOneLike result (K.written sink.old) (K.written sink.new) a.usage }
+    ensures usage { IsNoCommand words.now → IsCutShort result ⊥
+        ⊎ GivesOneLike result (K.written sink.old) (K.written sink.new) a.usage }
     ensures unread { ReadsNothing words.now → store.new ≡ store.old }
 
     // Where the store tells what it holds, each cause has its answer, but for what is left open.
-    ensures exactly { (files : Files) (answer : a.Answer) → S.holds store.old ≡ Some files → IsAnswerOn words.now files answer
-        → IsCutShort result (Rose (S.faults store.old) (S.faults store.new)) ⊎ GivesOneLike result (K.written sink.old) (K.written sink.new) answer }
+    ensures exactly { (files : Files) (answer : a.Answer) → S.holds store.old ≡ Some files
+        → IsAnswerOn words.now files answer
+        → IsCutShort result (Rose (S.faults store.old) (S.faults store.new))
+        ⊎ GivesOneLike result (K.written sink.old) (K.written sink.new) answer }
 
     // A check of held files that is yes: every document that is valid for the input is transformed to one that is valid for the output.
-    ensures safe { (files : Files) (limit : Option ℕ) (i o : Grammar) (s : Sheet) → S.holds store.old ≡ Some files → ChecksFiles words.now files limit i o s
+    ensures safe { (files : Files) (limit : Option ℕ) (i o : Grammar) (s : Sheet)
+        → S.holds store.old ≡ Some files → ChecksFiles words.now files limit i o s
         → result ≡ Status.Yes → IsSafe i o s }
 
     // A check of held files that is no: the document that is written is valid for the input, and its result, which is written too unless it
     // is too large, isn't valid for the output.
-    ensures shown { (files : Files) (limit : Option ℕ) (i o : Grammar) (s : Sheet) → S.holds store.old ≡ Some files → ChecksFiles words.now files limit i o s
+    ensures shown { (files : Files) (limit : Option ℕ) (i o : Grammar) (s : Sheet)
+        → S.holds store.old ≡ Some files → ChecksFiles words.now files limit i o s
         → result ≡ Status.No → ShowsCounterexample (K.written sink.old) (K.written sink.new) i o s }
 
     // The headline: a check of held files is yes exactly where no limit is passed and every result is valid, no exactly where none is passed
     // and one isn't, with a least document that shows it; and it tells of a limit exactly where one is passed.
-    ensures headline { (files : Files) (limit : Option ℕ) (i o : Grammar) (s : Sheet) → S.holds store.old ≡ Some files → ChecksShortFiles words.now files limit i o s
+    ensures headline { (files : Files) (limit : Option ℕ) (i o : Grammar) (s : Sheet)
+        → S.holds store.old ≡ Some files → ChecksShortFiles words.now files limit i o s
         → IsCutShort result (Rose (S.faults store.old) (S.faults store.new))
         ⊎ DecidesSafety result (K.written sink.old) (K.written sink.new) (most_rows limit) i o s }
 
     // So is a demonstration on the texts that it makes, for which nothing is read.
-    ensures demo_safe { (size : ℕ) (g : Grammar) (s : Sheet) → Words words.now (w.demo size) → RncText (demo_schema size) g → IsSheetOf demo_sheet s
+    ensures demo_safe { (size : ℕ) (g : Grammar) (s : Sheet) → Words words.now (w.demo size)
+        → RncText (demo_schema size) g → IsSheetOf demo_sheet s
         → result ≡ Status.Yes → IsSafe g g s }
-    ensures demo_shown { (size : ℕ) (g : Grammar) (s : Sheet) → Words words.now (w.demo size) → RncText (demo_schema size) g → IsSheetOf demo_sheet s
+    ensures demo_shown { (size : ℕ) (g : Grammar) (s : Sheet) → Words words.now (w.demo size)
+        → RncText (demo_schema size) g → IsSheetOf demo_sheet s
         → result ≡ Status.No → ShowsCounterexample (K.written sink.old) (K.written sink.new) g g s }
-    ensures demonstrated { (size : ℕ) (g : Grammar) (s : Sheet) → Words words.now (w.demo size) → RncText (demo_schema size) g → IsSheetOf demo_sheet s
-        → IsCutShort result ⊥ ⊎ DecidesSafety result (K.written sink.old) (K.written sink.new) MOST_ROWS g g s }
+    ensures demonstrated { (size : ℕ) (g : Grammar) (s : Sheet) → Words words.now (w.demo size)
+        → RncText (demo_schema size) g → IsSheetOf demo_sheet s
+        → IsCutShort result ⊥
+        ⊎ DecidesSafety result (K.written sink.old) (K.written sink.new) MOST_ROWS g g s }
 
     // `prove` of held files decides as a check does, but that where it is yes the text of the one certificate with exactly the rows of
     // what is live is written, and that it tells of the limit of its length where that is passed.
-    ensures proved { (files : Files) (limit : Option ℕ) (i o : Grammar) (s : Sheet) → S.holds store.old ≡ Some files → ProvesFiles words.now files limit i o s
+    ensures proved { (files : Files) (limit : Option ℕ) (i o : Grammar) (s : Sheet)
+        → S.holds store.old ≡ Some files → ProvesFiles words.now files limit i o s
         → IsCutShort result (Rose (S.faults store.old) (S.faults store.new))
         ⊎ DecidesProof i o s result (K.written sink.old) (K.written sink.new) (most_rows limit) }
 
     // `verify` of held files that is yes: every document that is valid for the input is transformed to one that is valid for the output.
-    ensures accepted_safe { (files : Files) (i o : Grammar) (s : Sheet) (bytes : List ℕ) → S.holds store.old ≡ Some files → VerifiesFiles words.now files i o s bytes
+    ensures accepted_safe { (files : Files) (i o : Grammar) (s : Sheet) (bytes : List ℕ)
+        → S.holds store.old ≡ Some files → VerifiesFiles words.now files i o s bytes
         → result ≡ Status.Yes → IsSafe i o s }
 
     // It is yes exactly where no limit is passed that is tried before rows are, and the bytes are the text of a certificate; no exactly
     // where none is passed and they aren't, by the first rule that fails.
-    ensures verified { (files : Files) (i o : Grammar) (s : Sheet) (bytes : List ℕ) → S.holds store.old ≡ Some files → VerifiesShortFiles words.now files i o s bytes
+    ensures verified { (files : Files) (i o : Grammar) (s : Sheet) (bytes : List ℕ)
+        → S.holds store.old ≡ Some files → VerifiesShortFiles words.now files i o s bytes
         → IsCutShort result (Rose (S.faults store.old) (S.faults store.new))
         ⊎ DecidesCertificate i o s result (K.written sink.old) (K.written sink.new) bytes }
 
     // `upgrade` of a held file is yes exactly where its bytes are a certificate's text, with the text of its data by changes.
-    ensures upgraded { (files : Files) (bytes : List ℕ) → S.holds store.old ≡ Some files → UpgradesFiles words.now files bytes
+    ensures upgraded { (files : Files) (bytes : List ℕ) → S.holds store.old ≡ Some files
+        → UpgradesFiles words.now files bytes
         → IsCutShort result (Rose (S.faults store.old) (S.faults store.new))
         ⊎ DecidesUpgrade result (K.written sink.old) (K.written sink.new) bytes }
 
     // A validation of held files is yes exactly where the document is valid, and no exactly where it isn't.
-    ensures validity { (files : Files) (g : Grammar) (d : Trees) → S.holds store.old ≡ Some files → ValidatesFiles words.now files g d
+    ensures validity { (files : Files) (g : Grammar) (d : Trees) → S.holds store.old ≡ Some files
+        → ValidatesFiles words.now files g d
         → IsCutShort result (Rose (S.faults store.old) (S.faults store.new))
         ⊎ DecidesValidity result (K.written sink.old) (K.written sink.new) g d }
 
     // A validation of a held file in pieces, of whatever size, is yes or no exactly where the schema keeps to its limits and the file's bytes are a text of
     // XML in which no tag, and never the names of open elements together, is too long, by whether its document is valid; it refuses the document exactly where the bytes are
     // no text of XML that is read, and no tag and no names are too long before reading stops; and else it tells of a limit that is passed.
-    ensures validity_in_pieces { (files : Files) (g : Grammar) (name bytes : List ℕ) → S.holds store.old ≡ Some files
+    ensures validity_in_pieces { (files : Files) (g : Grammar) (name bytes : List ℕ)
+        → S.holds store.old ≡ Some files
         → ValidatesFilesInPieces words.now files g name bytes
         → IsCutShort result (Rose (S.faults store.old) (S.faults store.new))
         ⊎ DecidesValidityInPieces result (K.written sink.old) (K.written sink.new) g name bytes }
 
     // A run of a held stylesheet on a held document that is yes writes the document's result.
-    ensures running { (files : Files) (s : Sheet) (d : Trees) → S.holds store.old ≡ Some files → RunsFiles words.now files s d
+    ensures running { (files : Files) (s : Sheet) (d : Trees) → S.holds store.old ≡ Some files
+        → RunsFiles words.now files s d
         → GivesResult result (K.written sink.old) (K.written sink.new) s d }
 
     // It is yes exactly where the stylesheet and its run keep to their limits, and else tells of one that is passed.
-    ensures limited { (files : Files) (s : Sheet) (d : Trees) → S.holds store.old ≡ Some files → RunsFiles words.now files s d
+    ensures limited { (files : Files) (s : Sheet) (d : Trees) → S.holds store.old ≡ Some files
+        → RunsFiles words.now files s d
         → IsCutShort result (Rose (S.faults store.old) (S.faults store.new))
         ⊎ KeepsToLimits result (K.written sink.old) (K.written sink.new) s d }
 
     // `include` of held files is yes exactly where each document that is valid for the first schema is valid for the second, with the
     // numbers of rows; no exactly where some document that can be shown isn't, with one of the fewest nodes; and else it tells of a limit
     // that is passed. So is `same`, for documents that are valid for exactly one of both.
-    ensures inclusion { (files : Files) (g h : Grammar) → S.holds store.old ≡ Some files → ComparesFiles words.now files inclusion g h
+    ensures inclusion { (files : Files) (g h : Grammar) → S.holds store.old ≡ Some files
+        → ComparesFiles words.now files inclusion g h
         → IsCutShort result (Rose (S.faults store.old) (S.faults store.new))
         ⊎ DecidesComparison g h result (K.written sink.old) (K.written sink.new) inclusion }
-    ensures equality { (files : Files) (g h : Grammar) → S.holds store.old ≡ Some files → ComparesFiles words.now files equality g h
+    ensures equality { (files : Files) (g h : Grammar) → S.holds store.old ≡ Some files
+        → ComparesFiles words.now files equality g h
         → IsCutShort result (Rose (S.faults store.old) (S.faults store.new))
         ⊎ DecidesComparison g h result (K.written sink.old) (K.written sink.new) equality }
 
@@ -179,7 +200,9 @@ fn answer_words<S: Store>(
     words: &[String],
     store: &mut S,
 ) -> Result<Answer, NoMemory>
-    ensures right { IfOk result (IsRightFor (texts words.now) (Happened S.read_gives S.holds S.faults store.old store.new)) }
+    ensures right { IfOk result
+        (IsRightFor (texts words.now)
+        (Happened S.read_gives S.holds S.faults store.old store.new)) }
     ensures no_memory { OnErr result ((command : w.Command) × Words (texts words.now) command) }
     ensures unread { ReadsNothing (texts words.now) → store.new ≡ store.old }
     ensures held { S.holds store.new ≡ S.holds store.old }

@@ -55,7 +55,8 @@ pub fn valid_in_pieces<S: Store>(
     requires some { 1 ≤ size }
     ensures same { S.holds store.new ≡ S.holds store.old }
     ensures count { S.faults store.old ≤ S.faults store.new }
-    ensures ok { IfOk result (λ said. (words : List (List ℕ)) → Words words (w.valid_in_pieces size schema.now document.now)
+    ensures ok { IfOk result (λ said. (words : List (List ℕ))
+        → Words words (w.valid_in_pieces size schema.now document.now)
         → IsRightFor words (Happened S.read_gives S.holds S.faults store.old store.new) said) }
 {
     match read_pair(
@@ -80,7 +81,8 @@ fn texts_in_pieces(
     requires schema { length schema.now.text.items ≤ longest_text }
     requires document { length document.now.text.items ≤ longest_text }
     ensures { IfOk result (λ said. (answer : a.Answer) × Says said answer
-        × ValidatesInPieces schema.now.name.now document.now.name.now schema.now.text.items document.now.text.items answer) }
+        × ValidatesInPieces schema.now.name.now document.now.name.now schema.now.text.items
+        document.now.text.items answer) }
 {
     let arena = Bump::new(alloc);
     match read_operand_schema(&arena, schema) {
@@ -100,7 +102,8 @@ fn schema_in_pieces(
     requires schema { IsLawful schema.now }
     requires document { length document.now.text.items ≤ longest_text }
     ensures { IfOk result (λ said. (x : g.Grammar) → IsReadOf x schema.now
-        → (answer : a.Answer) × Says said answer × DecidesInPieces x document.now.name.now document.now.text.items answer) }
+        → (answer : a.Answer) × Says said answer
+        × DecidesInPieces x document.now.name.now document.now.text.items answer) }
 {
     match schema_parts(alloc, schema) {
         Ok(parts) => document_in_pieces(alloc, size, &parts, document),
@@ -119,8 +122,10 @@ pub(crate) fn schema_parts<'b>(
     schema: &Schema<'b>,
 ) -> Result<SchemaParts<'b>, LimitFault>
     requires schema { IsLawful schema.now }
-    ensures ok { IfOk result (λ parts. (x : g.Grammar) → IsReadOf x schema.now → IsSchemaParts x parts) }
-    ensures err { IfErr result (λ e. (x : g.Grammar) → IsReadOf x schema.now → IsCauseBy (PassesValidity x) e) }
+    ensures ok { IfOk result
+        (λ parts. (x : g.Grammar) → IsReadOf x schema.now → IsSchemaParts x parts) }
+    ensures err { IfErr result
+        (λ e. (x : g.Grammar) → IsReadOf x schema.now → IsCauseBy (PassesValidity x) e) }
 {
     let automaton = input_automaton(alloc, schema)?;
     let alphabet = symbols_of(alloc, schema)?;
@@ -132,9 +137,11 @@ pub(crate) fn schema_parts<'b>(
 
 /// The symbols of a schema, which passes no limit of its own.
 fn symbols_of(alloc: Global, schema: &Schema<'_>) -> Result<Alphabet, LimitFault>
-    ensures stands { IfOk result (λ symbols. (x : g.Grammar) → IsReadOf x schema.now → symbols ≡ symbols_of_schema x) }
+    ensures stands { IfOk result
+        (λ symbols. (x : g.Grammar) → IsReadOf x schema.now → symbols ≡ symbols_of_schema x) }
     ensures few { IfOk result (λ symbols. AreFew symbols) }
-    ensures err { IfErr result (λ e. (x : g.Grammar) → IsReadOf x schema.now → IsWithinLimits x input MOST_INPUT_STATES
+    ensures err { IfErr result
+        (λ e. (x : g.Grammar) → IsReadOf x schema.now → IsWithinLimits x input MOST_INPUT_STATES
         → IsCauseBy (PassesValidity x) e) }
 {
     let grammar = grammar_within_limits(schema)?;
@@ -156,7 +163,8 @@ fn document_in_pieces(
     requires states { automata.states schema.now.automaton ≤ 512 }
     requires document { length document.now.text.items ≤ longest_text }
     ensures { IfOk result (λ said. (x : g.Grammar) → IsSchemaParts x schema.now
-        → (answer : a.Answer) × Says said answer × DecidesInPieces x document.now.name.now document.now.text.items answer) }
+        → (answer : a.Answer) × Says said answer
+        × DecidesInPieces x document.now.name.now document.now.text.items answer) }
 {
     let stream = Stream::new(alloc, &schema.automaton, &schema.alphabet)?;
     match feed_all(stream, &document.text, size) {
@@ -177,7 +185,8 @@ fn feed_all(begun: Stream<'_>, text: &[u8], size: u32) -> Result<bool, StreamFau
     requires short { length text.now ≤ longest_text }
     ensures ok { IfOk result (λ b. (x : g.Grammar) → StandsFor x begun.entry []
         → (h : RawTrees) × IsGood text.now h × (IsTrue b ↔ IsValid x (stripped h))) }
-    ensures fault { IfErr result (λ e. (x : g.Grammar) → StandsFor x begun.entry [] → IsFaultOf text.now e) }
+    ensures fault { IfErr result
+        (λ e. (x : g.Grammar) → StandsFor x begun.entry [] → IsFaultOf text.now e) }
 {
     let mut stream = begun;
     for piece in text.chunks(size as usize) {

@@ -31,7 +31,8 @@ pub fn run_program<S: Store, K: Sink>(
     // The words are carried out, unless memory was refused for them.
     ensures ends { (status : Status) × (exit_status result ≡ number_of status)
         × (Ends (words_of arguments) (Happened S.read_gives S.holds S.faults store.old store.new)
-        (Rose (K.faults sink.old) (K.faults sink.new)) (K.written sink.old) (K.written sink.new) status
+        (Rose (K.faults sink.old) (K.faults sink.new)) (K.written sink.old)
+        (K.written sink.new) status
         ⊎ ((status ≡ Status.NoMemory) × LackMemory arguments)) }
     ensures unwritten { exit_status result ≡ number_of Status.NoMemory → sink.new ≡ sink.old }
 {
@@ -63,7 +64,8 @@ fn word_list(alloc: Global, arguments: io::Result<Args>) -> Result<WordList, NoM
 /// The words behind the first one.
 fn words_behind_name(alloc: Global, arguments: Args) -> Result<WordList, NoMemory>
     ensures lack { OnErr result (drop 1 (into_iter_items arguments) ≢ []) }
-    ensures words { IfOk result (λ words. words ≡ map string_bytes (drop 1 (into_iter_items arguments))) }
+    ensures words { IfOk result
+        (λ words. words ≡ map string_bytes (drop 1 (into_iter_items arguments))) }
 {
     let mut arguments = arguments;
     let _name = arguments.next();

@@ -34,8 +34,10 @@ pub(crate) fn certify<'b>(
 ) -> Result<Answer, NoMemory>
     requires few { most ≤ GREATEST_LIMIT }
     requires machine { IsMachine machine.now }
-    ensures { IfOk result (λ said. (x : t.Triple) → IsMachineOf x machine.now → IsWithinTripleLimits x.input x.output (t.sheet x)
-        → (answer : a.Answer) × Says said answer × Certifies x.input x.output (t.sheet x) most answer) }
+    ensures { IfOk result (λ said. (x : t.Triple) → IsMachineOf x machine.now
+        → IsWithinTripleLimits x.input x.output (t.sheet x)
+        → (answer : a.Answer) × Says said answer
+        × Certifies x.input x.output (t.sheet x) most answer) }
 {
     match tc_close::prove(arena, alloc, machine, most) {
         Ok(Proof::Certified(data)) => write_certificate(alloc, most, &data),
@@ -48,8 +50,11 @@ pub(crate) fn certify<'b>(
 
 /// The answer by a certificate, unless its text is too long.
 fn write_certificate(alloc: Global, most: u32, held: &CertData) -> Result<Answer, NoMemory>
-    ensures { IfOk result (λ said. (x : t.Triple) → t.IsTriple x → IsWithinTripleLimits x.input x.output (t.sheet x) → IsSafeWithin x most → IsLeastCertificate x held.now
-        → (answer : a.Answer) × Says said answer × Certifies x.input x.output (t.sheet x) most answer) }
+    ensures { IfOk result
+        (λ said. (x : t.Triple) → t.IsTriple x → IsWithinTripleLimits x.input x.output (t.sheet x)
+        → IsSafeWithin x most → IsLeastCertificate x held.now
+        → (answer : a.Answer) × Says said answer
+        × Certifies x.input x.output (t.sheet x) most answer) }
 {
     match write_cert(alloc, held) {
         Ok(text) => Ok(Answer::certificate(text)),
@@ -60,8 +65,10 @@ fn write_certificate(alloc: Global, most: u32, held: &CertData) -> Result<Answer
 
 /// The answer that a count of rows passes its limit.
 fn rows_limit(alloc: Global, most: u32, fault: CloseFault) -> Result<Answer, NoMemory>
-    ensures { IfOk result (λ said. (x : t.Triple) → t.IsTriple x → IsWithinTripleLimits x.input x.output (t.sheet x) → IsCloseCause x most fault
-        → (answer : a.Answer) × Says said answer × Certifies x.input x.output (t.sheet x) most answer) }
+    ensures { IfOk result (λ said. (x : t.Triple) → t.IsTriple x
+        → IsWithinTripleLimits x.input x.output (t.sheet x) → IsCloseCause x most fault
+        → (answer : a.Answer) × Says said answer
+        × Certifies x.input x.output (t.sheet x) most answer) }
 {
     match fault {
         CloseFault::TooManyTrees => Answer::rows_limit(alloc, RowCount::Trees, most),
@@ -81,7 +88,8 @@ fn show<'b>(
     requires machine { IsMachine machine.now }
     requires document { IsDocument (see.before document.now none) }
     ensures { IfOk result (λ said. (x : t.Triple) → IsMachineOf x machine.now
-        → (answer : a.Answer) × Says said answer × IsRunOf (t.sheet x) (see.before document.now none) answer) }
+        → (answer : a.Answer) × Says said answer
+        × IsRunOf (t.sheet x) (see.before document.now none) answer) }
 {
     let output = output_of(arena, machine, document)?;
     answer_unsafe(alloc, document, &output)

@@ -40,7 +40,8 @@ pub fn run<S: Store>(
 ) -> Result<Answer, NoMemory>
     ensures same { S.holds store.new ≡ S.holds store.old }
     ensures count { S.faults store.old ≤ S.faults store.new }
-    ensures ok { IfOk result (λ said. (words : List (List ℕ)) → Words words (w.run sheet.now document.now)
+    ensures ok { IfOk result
+        (λ said. (words : List (List ℕ)) → Words words (w.run sheet.now document.now)
         → IsRightFor words (Happened S.read_gives S.holds S.faults store.old store.new) said) }
 {
     match read_pair(alloc, Source::plain(sheet), Source::plain(document), store) {
@@ -54,7 +55,8 @@ fn run_texts(alloc: Global, sheet: &Operand<'_>, document: &Operand<'_>) -> Resu
     requires sheet { length sheet.now.text.items ≤ longest_text }
     requires document { length document.now.text.items ≤ longest_text }
     ensures { IfOk result (λ said. (answer : a.Answer) × Says said answer
-        × RunsTexts sheet.now.name.now document.now.name.now sheet.now.text.items document.now.text.items answer) }
+        × RunsTexts sheet.now.name.now document.now.name.now sheet.now.text.items
+        document.now.text.items answer) }
 {
     let arena = Bump::new(alloc);
     match read_sheet(&arena, &sheet.text) {
@@ -72,7 +74,8 @@ fn run_on_text<'b>(
 ) -> Result<Answer, NoMemory>
     requires short { length document.now.text.items ≤ longest_text }
     requires sheet { IsSheet (see.sheet sheet.now) }
-    ensures { IfOk result (λ said. (answer : a.Answer) × Says said answer × ((name bytes : List ℕ) → IsSheetOf bytes (see.sheet sheet.now)
+    ensures { IfOk result (λ said. (answer : a.Answer) × Says said answer
+        × ((name bytes : List ℕ) → IsSheetOf bytes (see.sheet sheet.now)
         → RunsTexts name document.now.name.now bytes document.now.text.items answer)) }
 {
     match read_document(arena, &document.text) {
@@ -90,7 +93,8 @@ fn run_on<'b>(
 ) -> Result<Answer, NoMemory>
     requires sheet { IsSheet (see.sheet sheet.now) }
     requires document { IsDocument (see.before document.now none) }
-    ensures { IfOk result (λ said. (answer : a.Answer) × Says said answer × Runs (see.sheet sheet.now) (see.before document.now none) answer) }
+    ensures { IfOk result (λ said. (answer : a.Answer) × Says said answer
+        × Runs (see.sheet sheet.now) (see.before document.now none) answer) }
 {
     let alphabet = match alphabet_of(alloc, sheet) {
         Ok(alphabet) => alphabet,
@@ -121,9 +125,11 @@ fn run_rules<'b>(
     document: &Node<'b>,
 ) -> Result<Answer, NoMemory>
     requires rules { IsRulesOf alphabet.now rules.now }
-    requires within { IsWithinSheetLimits (symbols_of_sheet (told rules.now).sheet) (told rules.now).sheet }
+    requires within { IsWithinSheetLimits (symbols_of_sheet (told rules.now).sheet)
+        (told rules.now).sheet }
     requires document { IsDocument (see.before document.now none) }
-    ensures { IfOk result (λ said. (answer : a.Answer) × Says said answer × Runs (told rules.now).sheet (see.before document.now none) answer) }
+    ensures { IfOk result (λ said. (answer : a.Answer) × Says said answer
+        × Runs (told rules.now).sheet (see.before document.now none) answer) }
 {
     match tc_run::run(arena, rules, alphabet, document) {
         Ok(nodes) => Answer::result(alloc, nodes),
@@ -137,7 +143,8 @@ fn run_rules<'b>(
 fn alphabet_of(alloc: Global, sheet: &Sheet<'_>) -> Result<Alphabet, AlphaFault>
     ensures stands { IfOk result (λ a. a ≡ symbols_of_sheet (see.sheet sheet.now)) }
     ensures few { OnOk result (AreFew (symbols_of_sheet (see.sheet sheet.now))) }
-    ensures many { IfErr result (λ e. e ≡ AlphaFault.TooManySymbols → MOST_SYMBOLS < symbol_count (symbols_of_sheet (see.sheet sheet.now))) }
+    ensures many { IfErr result (λ e. e ≡ AlphaFault.TooManySymbols
+        → MOST_SYMBOLS < symbol_count (symbols_of_sheet (see.sheet sheet.now))) }
 {
     let nothing = no_schema();
     let twin = nothing;

@@ -23,7 +23,8 @@ pub fn compare<S: Store>(
 ) -> Result<Answer, NoMemory>
     ensures same { S.holds store.new ≡ S.holds store.old }
     ensures count { S.faults store.old ≤ S.faults store.new }
-    ensures ok { IfOk result (λ said. (words : List (List ℕ)) → Words words (asks (asked question) first.now second.now)
+    ensures ok { IfOk result
+        (λ said. (words : List (List ℕ)) → Words words (asks (asked question) first.now second.now)
         → IsRightFor words (Happened S.read_gives S.holds S.faults store.old store.new) said) }
 {
     match read_pair(alloc, Source::schema(first), Source::schema(second), store) {

@@ -38,8 +38,11 @@ pub fn decide_texts(
     requires output { length operands.now.output.text.items ≤ longest_text }
     requires sheet { length operands.now.sheet.text.items ≤ longest_text }
     ensures { IfOk result (λ said. (answer : a.Answer) × Says said answer
-        × OfTexts (decided_by task.entry) operands.now.input.name.now operands.now.output.name.now operands.now.sheet.name.now
-        operands.now.input.text.items operands.now.output.text.items operands.now.sheet.text.items answer) }
+        × OfTexts
+        (decided_by task.entry) operands.now.input.name.now operands.now.output.name.now
+        operands.now.sheet.name.now
+        operands.now.input.text.items operands.now.output.text.items operands.now.sheet.text.items
+        answer) }
 {
     let arena = Bump::new(alloc);
     let input = schema_text(&operands.input);

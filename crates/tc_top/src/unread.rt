@@ -13,7 +13,9 @@ use tc_read::TextFault;
 
 /// What is answered where an operand was not read.
 pub fn answer_unread(alloc: Global, unread: Unread<'_>) -> Result<Answer, NoMemory>
-    ensures { IfOk result (λ said. (words : List (List ℕ)) (command : w.Command) (reads : List Read) → Words words command
+    ensures { IfOk result
+        (λ said. (words : List (List ℕ)) (command : w.Command) (reads : List Read)
+        → Words words command
         → IsFirstUnread (operands_of command) reads unread.entry → IsRight words reads said) }
 {
     match unread {

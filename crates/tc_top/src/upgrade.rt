@@ -13,7 +13,8 @@ use tc_cert::UpgradeFault;
 /// The text in version 2 of the operand, where that is a certificate's text.
 pub fn upgrade_text(alloc: Global, certificate: &Operand<'_>) -> Result<Answer, NoMemory>
     requires { length certificate.now.text.items ≤ longest_text }
-    ensures { IfOk result (λ said. (answer : a.Answer) × Says said answer × Upgrades certificate.now.text.items answer) }
+    ensures { IfOk result (λ said. (answer : a.Answer) × Says said answer
+        × Upgrades certificate.now.text.items answer) }
 {
     match tc_cert::upgrade(alloc, &certificate.text) {
         Ok(text) => Ok(Answer::certificate(text)),

@@ -45,7 +45,8 @@ pub fn valid<S: Store>(
 ) -> Result<Answer, NoMemory>
     ensures same { S.holds store.new ≡ S.holds store.old }
     ensures count { S.faults store.old ≤ S.faults store.new }
-    ensures ok { IfOk result (λ said. (words : List (List ℕ)) → Words words (w.valid schema.now document.now)
+    ensures ok { IfOk result
+        (λ said. (words : List (List ℕ)) → Words words (w.valid schema.now document.now)
         → IsRightFor words (Happened S.read_gives S.holds S.faults store.old store.new) said) }
 {
     match read_pair(
@@ -68,7 +69,8 @@ fn valid_texts(
     requires schema { length schema.now.text.items ≤ longest_text }
     requires document { length document.now.text.items ≤ longest_text }
     ensures { IfOk result (λ said. (answer : a.Answer) × Says said answer
-        × Validates schema.now.name.now document.now.name.now schema.now.text.items document.now.text.items answer) }
+        × Validates schema.now.name.now document.now.name.now schema.now.text.items
+        document.now.text.items answer) }
 {
     let arena = Bump::new(alloc);
     match read_operand_schema(&arena, schema) {
@@ -86,7 +88,8 @@ fn valid_document(
 ) -> Result<Answer, NoMemory>
     requires short { length document.now.text.items ≤ longest_text }
     requires read { (word : List ℕ) × (bytes : List ℕ) × IsSchemaOfText word bytes schema.now }
-    ensures { IfOk result (λ said. (answer : a.Answer) × Says said answer × ((name bytes : List ℕ) → IsSchemaOfText name bytes schema.now
+    ensures { IfOk result (λ said. (answer : a.Answer) × Says said answer
+        × ((name bytes : List ℕ) → IsSchemaOfText name bytes schema.now
         → Validates name document.now.name.now bytes document.now.text.items answer)) }
 {
     match schema_parts(alloc, schema) {
@@ -107,7 +110,9 @@ fn answer_limit(
     document: &Operand<'_>,
 ) -> Result<Answer, NoMemory>
     requires { length document.now.text.items ≤ longest_text }
-    ensures { IfOk result (SaysOfText (λ x. PassesValidity x kind number) document.now.name.now document.now.text.items) }
+    ensures { IfOk result
+        (SaysOfText
+        (λ x. PassesValidity x kind number) document.now.name.now document.now.text.items) }
 {
     match read_document(arena, &document.text) {
         Ok(_) => Answer::limit(alloc, kind, number),
@@ -124,7 +129,9 @@ fn judge_text<'d>(
     document: &'d Operand<'_>,
 ) -> Result<Answer, NoMemory>
     requires { length document.now.text.items ≤ longest_text }
-    ensures { IfOk result (SaysOfText (λ x. IsSchemaParts x schema.now) document.now.name.now document.now.text.items) }
+    ensures { IfOk result
+        (SaysOfText
+        (λ x. IsSchemaParts x schema.now) document.now.name.now document.now.text.items) }
 {
     let judge = Judge::new(alloc, &schema.automaton, &schema.alphabet)?;
     match take_document(arena, &document.text, judge) {
@@ -141,7 +148,9 @@ fn judge_document(
     document: &Operand<'_>,
 ) -> Result<Answer, NoMemory>
     requires { length document.now.text.items ≤ longest_text }
-    ensures { IfOk result (SaysOfText (λ x. IsSchemaParts x schema.now) document.now.name.now document.now.text.items) }
+    ensures { IfOk result
+        (SaysOfText
+        (λ x. IsSchemaParts x schema.now) document.now.name.now document.now.text.items) }
 {
     match read_document(arena, &document.text) {
         Ok(root) => judge_tree(alloc, schema, &root),
@@ -157,7 +166,8 @@ fn judge_tree(
 ) -> Result<Answer, NoMemory>
     requires { IsDocument (see.before document.now none) }
     ensures { IfOk result (λ said. (answer : a.Answer) × Says said answer
-        × ((x : g.Grammar) → IsSchemaParts x schema.now → Decides x (see.before document.now none) answer)) }
+        × ((x : g.Grammar) → IsSchemaParts x schema.now
+        → Decides x (see.before document.now none) answer)) }
 {
     let mut judge = Judge::new(alloc, &schema.automaton, &schema.alphabet)?;
     match take_tree(&mut judge, document) {
@@ -168,7 +178,8 @@ fn judge_tree(
 
 /// What is answered of a document that is valid, or isn't.
 fn answer_of(is_valid: bool) -> Answer
-    ensures { (answer : a.Answer) × Says result answer × ((x : g.Grammar) (d : Trees) → IsValidityWithin x
+    ensures { (answer : a.Answer) × Says result answer
+        × ((x : g.Grammar) (d : Trees) → IsValidityWithin x
         → IsTrue is_valid ↔ IsValid x d → Decides x d answer) }
 {
     if is_valid {
@@ -182,7 +193,8 @@ fn answer_of(is_valid: bool) -> Answer
 pub(crate) fn alphabet_of(alloc: Global, grammar: &Grammar<'_>) -> Result<Alphabet, AlphaFault>
     ensures stands { IfOk result (λ a. a ≡ symbols_of_schema (see.grammar grammar.now)) }
     ensures few { OnOk result (AreFew (symbols_of_schema (see.grammar grammar.now))) }
-    ensures many { IfErr result (λ e. e ≡ AlphaFault.TooManySymbols → MOST_SYMBOLS < symbol_count (symbols_of_schema (see.grammar grammar.now))) }
+    ensures many { IfErr result (λ e. e ≡ AlphaFault.TooManySymbols
+        → MOST_SYMBOLS < symbol_count (symbols_of_schema (see.grammar grammar.now))) }
 {
     let nothing = no_schema();
     let sheet = no_rules();

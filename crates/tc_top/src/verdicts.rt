@@ -42,7 +42,9 @@ pub fn answer_failure(
     operands: &Operands<'_>,
     failure: Failure,
 ) -> Result<Answer, NoMemory>
-    ensures { IfOk result (SaysFailure operands.now.input.name.now operands.now.output.name.now operands.now.sheet.name.now failure) }
+    ensures { IfOk result
+        (SaysFailure operands.now.input.name.now operands.now.output.name.now
+        operands.now.sheet.name.now failure) }
 {
     match failure {
         Failure::Refused(which, reason, place) => {
@@ -66,7 +68,9 @@ fn answer_limit(alloc: Global, kind: Kind, number: u32) -> Result<Answer, NoMemo
 
 /// The name of an operand.
 fn name_of<'n>(operands: &Operands<'n>, which: Which) -> &'n str
-    ensures { result.now ≡ name_by operands.now.input.name.now operands.now.output.name.now operands.now.sheet.name.now which }
+    ensures { result.now
+        ≡ name_by operands.now.input.name.now operands.now.output.name.now
+        operands.now.sheet.name.now which }
 {
     match which {
         Which::Input => operands.input.name,

@@ -44,8 +44,10 @@ pub(crate) fn verify_text(
 ) -> Result<Answer, NoMemory>
     requires machine { IsMachine machine.now }
     requires text { length text.now ≤ longest_text }
-    ensures { IfOk result (λ said. (x : t.Triple) → IsMachineOf x machine.now → IsWithinTripleLimits x.input x.output (t.sheet x)
-        → (answer : a.Answer) × Says said answer × Accepts x.input x.output (t.sheet x) text.now answer) }
+    ensures { IfOk result (λ said. (x : t.Triple) → IsMachineOf x machine.now
+        → IsWithinTripleLimits x.input x.output (t.sheet x)
+        → (answer : a.Answer) × Says said answer
+        × Accepts x.input x.output (t.sheet x) text.now answer) }
 {
     match first_unfit(alloc, text, ranges_by(machine.shape())) {
         Ok(None) => verify_fitting(alloc, machine, text),
@@ -66,8 +68,10 @@ fn no_form(alloc: Global, line: u32) -> Result<Answer, NoMemory>
 fn verify_fitting(alloc: Global, machine: &Machine<'_>, text: &[u8]) -> Result<Answer, NoMemory>
     requires machine { IsMachine machine.now }
     requires text { length text.now ≤ longest_text }
-    ensures { IfOk result (λ said. (x : t.Triple) → IsMachineOf x machine.now → IsWithinTripleLimits x.input x.output (t.sheet x)
-        → (answer : a.Answer) × Says said answer × Accepts x.input x.output (t.sheet x) text.now answer) }
+    ensures { IfOk result (λ said. (x : t.Triple) → IsMachineOf x machine.now
+        → IsWithinTripleLimits x.input x.output (t.sheet x)
+        → (answer : a.Answer) × Says said answer
+        × Accepts x.input x.output (t.sheet x) text.now answer) }
 {
     match read_cert(alloc, text) {
         Ok(data) => verify_data(alloc, machine, &data),
@@ -80,8 +84,12 @@ fn verify_fitting(alloc: Global, machine: &Machine<'_>, text: &[u8]) -> Result<A
 fn verify_data(alloc: Global, machine: &Machine<'_>, held: &CertData) -> Result<Answer, NoMemory>
     requires machine { IsMachine machine.now }
     requires formed { IsFormed held.now }
-    ensures { IfOk result (λ said. (x : t.Triple) → IsMachineOf x machine.now → IsWithinTripleLimits x.input x.output (t.sheet x) → (bytes : List ℕ) → CertificateText bytes held.now
-        → (answer : a.Answer) × Says said answer × Accepts x.input x.output (t.sheet x) bytes answer) }
+    ensures { IfOk result
+        (λ said. (x : t.Triple) → IsMachineOf x machine.now
+        → IsWithinTripleLimits x.input x.output (t.sheet x) → (bytes : List ℕ)
+        → CertificateText bytes held.now
+        → (answer : a.Answer) × Says said answer
+        × Accepts x.input x.output (t.sheet x) bytes answer) }
 {
     match tc_verify::verify(alloc, machine, held) {
         Ok(()) => Ok(Answer::accepted()),
@@ -97,7 +105,8 @@ fn rejection_of<'b>(
     reject: Reject,
 ) -> Result<Rejection<'b>, NoMemory>
     requires { reject.rule ≡ RejectRule.Wrap → reject.other < symbol_count machine.now.alphabet }
-    ensures { IfOk result (λ why. rejection why ≡ told_by machine.now.alphabet reject.rule reject.line reject.other) }
+    ensures { IfOk result
+        (λ why. rejection why ≡ told_by machine.now.alphabet reject.rule reject.line reject.other) }
 {
     match reject.rule {
         RejectRule::Form => Ok(Rejection::Form(reject.line)),
@@ -116,7 +125,9 @@ fn rejection_of<'b>(
 /// The answer by the first rule that fails.
 fn reject_data(alloc: Global, machine: &Machine<'_>, reject: Reject) -> Result<Answer, NoMemory>
     requires { reject.rule ≡ RejectRule.Wrap → reject.other < symbol_count machine.now.alphabet }
-    ensures { IfOk result (λ said. Says said (a.rejected (told_by machine.now.alphabet reject.rule reject.line reject.other))) }
+    ensures { IfOk result
+        (λ said. Says said
+        (a.rejected (told_by machine.now.alphabet reject.rule reject.line reject.other))) }
 {
     let arena = Bump::new(alloc);
     match rejection_of(&arena, machine, reject) {
