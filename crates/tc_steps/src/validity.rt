@@ -147,7 +147,9 @@ impl<'h> Validity<'h> {
             → IsWithin x self.old.steps.auto.now self.old.steps.alphabet.now
             self.old.steps.classes.items self.old.levels.items self.old.depth self.old.has_text
             path run
-            → IsWithin x self.new.steps.auto.now self.new.steps.alphabet.now self.new.steps.classes.items self.new.levels.items self.new.depth self.new.has_text (record { name = see.name name.now; kids = t.none } ∷ with_text run path) [] }
+            → IsWithin x self.new.steps.auto.now self.new.steps.alphabet.now
+            self.new.steps.classes.items self.new.levels.items self.new.depth self.new.has_text
+            (record { name = see.name name.now; kids = t.none } ∷ with_text run path) [] }
     {
         self.end_text();
         let symbol = self.steps.symbol(name);
