@@ -13,12 +13,17 @@ from pathlib import Path
 
 from definitions import Definition, Outside, Scope, cited_by_clause, file_of, module_of, reach
 
-CODE = ("crates/tc_top/src/lib.rt", "crates/tc_top/src/program.rt", "crates/tc_top/src/laws.rt")
+CODE = (
+    "crates/tc_decide/src/checking.rt",
+    "crates/tc_top/src/lib.rt",
+    "crates/tc_top/src/program.rt",
+    "crates/tc_top/src/laws.rt",
+)
 PAGE, README = Path("docs/TRUST.md"), Path("README.md")
 FUNCTION = re.compile(r"^pub fn (\w+).*?\n\{", re.M | re.S)
 CLAUSE = re.compile(r"    ensures (\w*) ?\{(.*?)\}\n", re.S)
 MODEL = "Safety Validity Matching Grammars Trees Names Sheets Chains Paths Outcomes Meaning"
-FIRST = ["tc_top.specs.Headline", *(f"tc_model.specs.{name}" for name in MODEL.split())]
+FIRST = ["tc_decide.specs.Deciding", *(f"tc_model.specs.{name}" for name in MODEL.split())]
 
 
 class Reached:
@@ -96,13 +101,13 @@ def in_order(modules):
 
 def reading_order(found):
     """The one reading order of all modules, in three parts."""
-    texts = [module for module in found["safe"].modules() if module not in FIRST]
+    texts = [module for module in found["check.safe"].modules() if module not in FIRST]
     whole = dict.fromkeys(module for reached in found.values() for module in reached.modules())
     others = [module for module in whole if module not in [*FIRST, *texts]]
     return {
         "Read these first": FIRST,
         "What texts and words mean": in_order(texts),
-        "What clauses other than `safe` add": in_order(others),
+        "What clauses other than `check.safe` add": in_order(others),
     }
 
 
@@ -164,7 +169,7 @@ def clause_table(found):
 
 def page(text, found):
     """The page with its tables as they are now: each stands behind a comment that names it."""
-    for name, rows in (("first", first_table(found["safe"])), ("clauses", clause_table(found))):
+    for name, rows in (("first", first_table(found["check.safe"])), ("clauses", clause_table(found))):
         text = re.sub(rf"(<!-- {name} -->\n\n)(?:\|.*\n)*", lambda match: match[1] + rows, text)
     return text
 
