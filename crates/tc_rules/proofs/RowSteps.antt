@@ -1,5 +1,5 @@
 -- Lists are written and read one by one.
-use Rattle.std.proofs.Common.{◌≡◌, ℕ, zero, suc, ◌<◌, List, [], ◌∷◌, ◌++◌, Bool, false, refl, ap, sym, ◌∙◌, map, length, get_or, append_assoc, arith}
+use Rattle.std.proofs.Common.{◌≡◌, ℕ, zero, suc, ◌+◌, ◌<◌, List, [], ◌∷◌, ◌++◌, Bool, false, refl, ap, sym, ◌∙◌, map, length, get_or, drop, append_assoc, add-one, Some, slice_get, arith}
 use Rattle.tc_rules.specs.Steps as v
 
 module _ {X : Type 0} where
@@ -11,6 +11,14 @@ module _ {X : Type 0} where
   pub map_push : {Y : Type 0} (f : Y → X) (ys : List Y) (y : Y) → map f (ys ++ y ∷ []) ≡ map f ys ++ f y ∷ []
   map_push f [] y = refl
   map_push f (z ∷ ys) y = ap (λ w. f z ∷ w) (map_push f ys y)
+
+  drop_here : (xs : List X) (i : ℕ) (x : X) → slice_get xs i ≡ Some x → drop i xs ≡ x ∷ drop (suc i) xs
+  drop_here [] i x e = cc
+  drop_here (y ∷ xs) zero x e = cc
+  drop_here (y ∷ xs) (suc i) x e = drop_here xs i x e
+
+  pub drop_at : (xs : List X) (i : ℕ) (x : X) → slice_get xs i ≡ Some x → drop i xs ≡ x ∷ drop (i + 1) xs
+  drop_at xs i x e = rw add-one (drop_here xs i x e)
 
   nothing_after : (xs : List X) → xs ++ [] ≡ xs
   nothing_after [] = refl
