@@ -1,5 +1,5 @@
 -- Tables of a graph are written row by row.
-use Rattle.std.proofs.Common.{◌≡◌, ℕ, ◌+◌, ◌<◌, List, ◌∷◌, ◌++◌, [], ap, sym, ◌∙◌, map, length, get_or, drop, add-one, Bor}
+use Rattle.std.proofs.Common.{◌≡◌, ℕ, ◌+◌, ◌<◌, List, ◌∷◌, ◌++◌, [], ap, sym, ◌∙◌, length, get_or, drop, add-one, Bor}
 use Rattle.std.proofs.lemmas.List.{drop_more}
 use Rattle.tc_model.specs.Sheets.{Path}
 use Rattle.tc_model.specs.Numbered.{numbers_below}

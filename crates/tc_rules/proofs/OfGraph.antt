@@ -1,11 +1,8 @@
 -- The tables that were written are those of a path over the symbols.
-use Rattle.std.proofs.Common.{◌≡◌, ℕ, zero, suc, ◌+◌, ◌<◌, ◌^◌, List, [], ◌∷◌, ◌++◌, Bool, true, false, ◌||◌, refl, ap, sym, ◌∙◌, subst, map, filter, flat_map, length, get_or, nat_lt, cond, not, Option, Some, None, slice_get, Bor, arith}
-use Rattle.std.specs.List.{list_any, position, position_or_len}
-use Rattle.std.proofs.lemmas.Bool.{lt-ltb}
+use Rattle.std.proofs.Common.{◌≡◌, ℕ, ◌<◌, ◌^◌, List, [], ◌∷◌, ◌++◌, Bool, refl, ap, sym, ◌∙◌, subst, map, filter, flat_map, length, get_or, Option, Some, None, slice_get, Bor}
 use Rattle.std.proofs.lemmas.List.{length-map, map-append}
 use Rattle.std.proofs.lemmas.List.Folds.{flat_map-map}
-use Rattle.std.proofs.lemmas.List.Quantifiers.{position-Some}
-use Rattle.std.proofs.lemmas.Option.{get_or_from_slice_get, slice_get-get_or}
+use Rattle.std.proofs.lemmas.Option.{get_or_from_slice_get}
 use Rattle.std.proofs.lemmas.Simd.{map-map}
 use Rattle.tc_model.specs.Trees.{none}
 use Rattle.tc_model.specs.Chains.{an_element}
@@ -32,10 +29,9 @@ use Rattle.tc_rules.specs.Views.{predicates}
 use Rattle.tc_rules.specs.Steps as v
 use Rattle.tc_rules.specs.declared.graph.Source.{Source}
 use Rattle.tc_rules.proofs.Fits.{path_fits_is, next_is}
-use Rattle.tc_rules.proofs.Numbering.{AreThere}
-use Rattle.tc_rules.proofs.Pieces.{pieces_once, pieces_of, filter_pieces, pieces_alike, length_below, mapped_at, unmapped_at, get_or_mapped, value_at, there_piece, there_one}
+use Rattle.tc_rules.proofs.Pieces.{pieces_once, pieces_of, filter_pieces, pieces_alike, length_below, mapped_at, unmapped_at, value_at}
 use Rattle.tc_rules.proofs.Rounds.{reached_alike, many_alike}
-use Rattle.tc_rules.proofs.SameRows.{state_same, state_self}
+use Rattle.tc_rules.proofs.SameRows.{state_self}
 
 module _ (symbols : List Mention) (s : Source) (h : IsSourceOf symbols s) (q : Path) (classes : List ℕ) (kinds marked : List State) (k : AreClasses s.predicates.items q s.sets s.names.items classes (fits_by kinds marked)) where
   abbrev fits : List (List State)

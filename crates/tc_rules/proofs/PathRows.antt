@@ -1,5 +1,5 @@
 -- The rows of a path's graph are its states.
-use Rattle.std.proofs.Common.{◌≡◌, ℕ, zero, suc, ◌+◌, ◌<◌, ◌≤◌, ◌^◌, List, [], ◌∷◌, ◌++◌, Bool, true, false, not, refl, ap, sym, ◌∙◌, subst, map, filter, length, take, get_or, Option, Some, None, slice_get, Bor, arith}
+use Rattle.std.proofs.Common.{◌≡◌, ℕ, zero, suc, ◌+◌, ◌<◌, ◌≤◌, List, [], ◌∷◌, ◌++◌, true, false, not, refl, ap, sym, ◌∙◌, subst, map, filter, length, take, get_or, Option, Some, None, slice_get, Bor, arith}
 use Rattle.std.specs.Global.{Vec}
 use Rattle.std.specs.List.{list_any, AllZip, All}
 use Rattle.std.proofs.lemmas.List.{length-map, get_or_default, take_all, take_more}
@@ -13,7 +13,7 @@ use Rattle.tc_model.specs.Sheets.{Steps, no_step, step, Path, no_alternative, al
 use Rattle.tc_model.specs.Symbols.{Mention}
 use Rattle.tc_model.specs.declared.sheet.Test.{Test}
 use Rattle.tc_model.specs.declared.tree.Name.{Name}
-use Rattle.tc_rules.specs.Classes.{path_states, AreKinds, AreKindsOf, AreLettersOf, fits_of, marked_by, IsSourceOf}
+use Rattle.tc_rules.specs.Classes.{path_states, AreKinds, AreKindsOf, AreLettersOf, marked_by, IsSourceOf}
 use Rattle.tc_rules.specs.Graphs as g
 use Rattle.tc_rules.specs.Graphs.{IsGraphOf, LeadsTo}
 use Rattle.tc_rules.specs.Once.{put_once}
@@ -21,7 +21,7 @@ use Rattle.tc_rules.specs.Reached.{counted, kept_by, leads_by, leads_by_set, lea
 use Rattle.tc_rules.specs.Rows.{words, all_words, state, states, fits, fits_by, leads, leads_of_classes, leads_of_states}
 use Rattle.tc_rules.specs.Steps.{both_states, next_state, path_having, steps_having}
 use Rattle.tc_rules.specs.Views.{predicates}
-use Rattle.tc_rules.specs.Words.{both_words, deep_steps, inner_steps, on_path, ends_of, same_words, total, IsPadded, IsRow}
+use Rattle.tc_rules.specs.Words.{both_words, deep_steps, inner_steps, on_path, ends_of, same_words, IsRow}
 use Rattle.tc_rules.specs.declared.graph.Counts.{Counts}
 use Rattle.tc_rules.specs.declared.graph.Counts.TheVariants.{All as AllCount, SomeItem}
 use Rattle.tc_rules.specs.declared.graph.Kinds.{Kinds}

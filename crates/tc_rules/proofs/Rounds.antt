@@ -1,6 +1,5 @@
 -- Rounds reach the states that are reached, and no round goes on where none leads further.
 use Rattle.std.proofs.Common.{◌≡◌, ℕ, zero, suc, ◌+◌, ◌<◌, ◌≤◌, List, [], ◌∷◌, ◌++◌, Bool, true, false, refl, ap, sym, ◌∙◌, subst, map, filter, flat_map, length, take, drop, append_assoc, Some, slice_get, get_or, arith, if◌then◌else◌}
-use Rattle.std.specs.List.{list_any}
 use Rattle.std.proofs.lemmas.List.{append-nil, length-append, take-append-drop, take_all, take_at, drop_more, drop_all}
 use Rattle.std.proofs.lemmas.List.Elements.{filter-append}
 use Rattle.std.proofs.lemmas.Grind.{flat_map-append}
@@ -9,8 +8,7 @@ use Rattle.tc_model.specs.Letters.{Letter}
 use Rattle.tc_model.specs.PathStates.{State, same_state}
 use Rattle.tc_model.specs.Numbered.{each_once_after}
 use Rattle.tc_model.specs.Numberings as n
-use Rattle.tc_alpha.proofs.Members.{Every, every_append}
-use Rattle.tc_rules.specs.Once.{put_once, put_all}
+use Rattle.tc_rules.specs.Once.{put_all}
 use Rattle.tc_rules.specs.Reached.{leads_of, one_round, rounds, AreReached}
 use Rattle.tc_rules.proofs.Numbering.{put_joined, put_is, IsOnce, once_put_all, AreThere, put_absorbed, there_joined, there_kept, put_all_there, round_puts}
 use Rattle.tc_rules.proofs.Pieces.{get_front}

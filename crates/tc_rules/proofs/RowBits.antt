@@ -1,12 +1,12 @@
 -- The bits of rows.
-use Rattle.std.proofs.Common.{◌≡◌, ◌⊎◌, inl, inr, ℕ, zero, suc, ◌+◌, ◌-◌, ◌*◌, ◌/◌, ◌%◌, ◌^◌, ◌<◌, ◌≤◌, List, [], ◌∷◌, Bool, true, false, ◌&&◌, ◌||◌, refl, ap, sym, ◌∙◌, subst, length, get_or, nat_eq, bit_and, bit_or, min, max, arith}
+use Rattle.std.proofs.Common.{◌≡◌, ◌⊎◌, inl, inr, ℕ, zero, suc, ◌+◌, ◌-◌, ◌*◌, ◌/◌, ◌%◌, ◌^◌, ◌<◌, ◌≤◌, List, [], ◌∷◌, ◌&&◌, ◌||◌, refl, ap, sym, ◌∙◌, length, get_or, nat_eq, bit_and, bit_or, min, max, arith}
 use Rattle.std.specs.Int.{bit_at}
-use Rattle.std.specs.Int.Bits.{and_zero_l, or_zero_r}
+use Rattle.std.specs.Int.Bits.{and_zero_l}
 use Rattle.std.proofs.lemmas.Bool.{cases_lt}
 use Rattle.std.proofs.lemmas.List.{get_or_past}
 use Rattle.std.proofs.lemmas.Nat.Bits.{bit_at_and, bit_at_or, bit_at_lowest, bit_at-suc, bit_at-lt, bit_at-zero, bit_at_above, bit_at_cat_low, bit_at_cat_high}
-use Rattle.tc_sets.specs.Numbers.{Numbers, IsSet, bit_of}
-use Rattle.tc_sets.proofs.Bits.{numbers, met_is_set}
+use Rattle.tc_sets.specs.Numbers.{bit_of}
+use Rattle.tc_sets.proofs.Bits.{met_is_set}
 use Rattle.tc_rules.specs.Words.{first_word, after_word, both_words, further_words, shifted, bit, IsPadded}
 
 first_is : (ws : List ℕ) → first_word ws ≡ get_or ws 0 0

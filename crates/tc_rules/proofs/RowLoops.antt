@@ -1,5 +1,5 @@
 -- What loops over rows keep.
-use Rattle.std.proofs.Common.{◌≡◌, ℕ, zero, suc, ◌+◌, ◌/◌, ◌^◌, ◌<◌, ◌≤◌, List, [], ◌∷◌, ◌++◌, Bool, true, false, ◌&&◌, refl, ap, sym, ◌∙◌, subst, length, get_or, drop, nat_eq, bit_and, bit_or, append_assoc, add-one, Bor, ◌≢◌, nat_lt, inl, inr, Some}
+use Rattle.std.proofs.Common.{◌≡◌, ℕ, zero, suc, ◌+◌, ◌/◌, ◌^◌, ◌<◌, ◌≤◌, List, [], ◌∷◌, ◌++◌, Bool, true, false, ◌&&◌, refl, ap, sym, ◌∙◌, length, get_or, drop, nat_eq, bit_and, bit_or, append_assoc, add-one, Bor, ◌≢◌, nat_lt, inl, inr, Some}
 use Rattle.std.proofs.lemmas.Bool.{eqb-true, eq-eqb, cases_lt, lt-ltb, le-ltb}
 use Rattle.std.proofs.lemmas.Grind.{get_or_default_zero}
 use Rattle.std.proofs.lemmas.List.{drop_more, drop_all, get_or_default}
@@ -20,7 +20,7 @@ use Rattle.tc_rules.specs.Words.{first_word, after_word, both_words, further_wor
 use Rattle.tc_rules.specs.declared.rows.Sought.{Sought}
 use Rattle.tc_rules.proofs.RowBits.{get_both}
 use Rattle.tc_rules.proofs.RowPairs.{step_left, no_step_left}
-use Rattle.tc_rules.proofs.RowSteps.{element, one_more, ended}
+use Rattle.tc_rules.proofs.RowSteps.{element, one_more}
 use Rattle.tc_rules.proofs.Writing.{flat, IsLong}
 
 first_left : (us : List ℕ) (k : ℕ) → first_word (drop k us) ≡ get_or us k 0

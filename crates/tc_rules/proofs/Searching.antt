@@ -2,10 +2,10 @@
 use Rattle.std.proofs.Common.{◌≡◌, ℕ, zero, suc, ◌+◌, ◌<◌, ◌≤◌, List, [], ◌∷◌, ◌++◌, Bool, true, false, ◌||◌, refl, ap, sym, ◌∙◌, subst, map, filter, flat_map, length, take, drop, get_or, append_assoc, Option, Some, None, slice_get, arith, if◌then◌else◌, ◌&&◌, nat_eq, bit_and}
 use Rattle.std.specs.Global.{Vec}
 use Rattle.std.specs.List.{list_any, AllZip}
-use Rattle.std.proofs.lemmas.List.{append-nil, length-append, length-map, take-append-drop, take_more, take_all, take-append-le, length_push, map-append}
+use Rattle.std.proofs.lemmas.List.{append-nil, take-append-drop, take_more, take-append-le, length_push, map-append}
 use Rattle.std.proofs.lemmas.List.Elements.{filter-append}
 use Rattle.std.proofs.lemmas.Grind.{flat_map-append}
-use Rattle.std.proofs.lemmas.Option.{get_or_from_slice_get, slice_get-get_or, slice_get_within}
+use Rattle.std.proofs.lemmas.Option.{get_or_from_slice_get, slice_get_within}
 use Rattle.tc_rules.specs.Once.{put_once, put_all}
 use Rattle.tc_rules.specs.Reached.{kept_by, lead_of, leads_by_set, ArePut, AreMany, IsLead, AreLeads, IsLeadOfClass, AreLeadsOfClasses, AreLeadsByClass, AreLedFrom, AreLed}
 use Rattle.tc_rules.specs.Rows.{words, all_words, leads}
@@ -17,8 +17,8 @@ use Rattle.tc_rules.specs.declared.graph.Leads.{Leads}
 use Rattle.tc_rules.specs.declared.graph.Letters.{Letters}
 use Rattle.tc_rules.specs.declared.search.Reached.{Reached}
 use Rattle.tc_rules.proofs.LeadRows.{words_self}
-use Rattle.tc_rules.proofs.Numbering.{put_joined, put_is, AreThere, put_absorbed}
-use Rattle.tc_rules.proofs.Pieces.{get_front, mapped_at, unmapped_at}
+use Rattle.tc_rules.proofs.Numbering.{put_joined, put_is}
+use Rattle.tc_rules.proofs.Pieces.{get_front, unmapped_at}
 use Rattle.tc_rules.proofs.Rounds.{put_grows}
 use Rattle.tc_model.specs.Numbered.{each_once_after}
 

@@ -1,14 +1,13 @@
 -- Rows are written bit by bit.
-use Rattle.std.proofs.Common.{◌≡◌, ◌⊎◌, inl, inr, ℕ, zero, suc, ◌+◌, ◌*◌, ◌/◌, ◌%◌, ◌^◌, ◌<◌, ◌≤◌, List, [], ◌∷◌, ◌++◌, Bool, true, false, refl, ap, sym, ◌∙◌, subst, length, get_or, nat_eq, bit_or, set, append_assoc, arith, if◌then◌else◌}
+use Rattle.std.proofs.Common.{◌≡◌, ◌⊎◌, inl, inr, ℕ, zero, suc, ◌+◌, ◌*◌, ◌/◌, ◌%◌, ◌<◌, ◌≤◌, List, [], ◌∷◌, ◌++◌, Bool, true, false, refl, ap, sym, ◌∙◌, subst, length, get_or, nat_eq, arith, if◌then◌else◌}
 use Rattle.std.specs.Int.{bit_at}
-use Rattle.std.proofs.lemmas.Bool.{cases_lt, cases_eq, eq-eqb, eqb-true}
-use Rattle.std.proofs.lemmas.List.{append-nil, get_or_past, length-append, length-set}
-use Rattle.std.proofs.lemmas.Nat.Bits.{bit_at-lt, bit_at-zero}
-use Rattle.tc_sets.specs.Numbers.{Numbers, IsSet, Has, bit_of}
+use Rattle.std.proofs.lemmas.Bool.{eq-eqb, eqb-true}
+use Rattle.std.proofs.lemmas.List.{length-append}
+use Rattle.tc_sets.specs.Numbers.{Has}
 use Rattle.tc_sets.proofs.Bits.{numbers, added_is_set, added_numbers}
-use Rattle.tc_model.specs.Sheets.{Steps, no_step, step, Path, no_alternative, alternative}
+use Rattle.tc_model.specs.Sheets.{Path, no_alternative, alternative}
 use Rattle.tc_model.specs.PathStates.{Items, State}
-use Rattle.tc_rules.specs.Words.{bit, span, cut, count_steps, ends_of, total, with_bit, IsPadded, IsRow}
+use Rattle.tc_rules.specs.Words.{bit, span, count_steps, total, with_bit, IsPadded, IsRow}
 use Rattle.tc_rules.proofs.RowStates.{cut_by, cut_is}
 
 -- one more value of a span

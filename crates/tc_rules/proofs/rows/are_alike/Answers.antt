@@ -1,4 +1,4 @@
-use Rattle.std.proofs.Common.{◌<◌, ◌≤◌, ◌∙◌, ap, sym, length, arith}
+use Rattle.std.proofs.Common.{◌<◌, ◌≤◌, ◌∙◌, sym, length, arith}
 use Rattle.tc_rules.proofs.RowLoops.{alike_goes, alike_later, alike_never, met_is, over_alike}
 use Rattle.tc_rules.proofs.rows.are_alike.Goals as goal
 

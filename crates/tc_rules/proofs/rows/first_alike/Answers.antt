@@ -1,4 +1,4 @@
-use Rattle.std.proofs.Common.{◌<◌, ◌∙◌, ap, sym, length, arith}
+use Rattle.std.proofs.Common.{◌∙◌, ap, sym, arith}
 use Rattle.tc_rules.specs.Rows.{words}
 use Rattle.tc_rules.specs.Words.{both_words}
 use Rattle.tc_rules.proofs.RowLoops.{alike_both, words_got}

@@ -1,4 +1,4 @@
-use Rattle.std.proofs.Common.{◌++◌, ◌∙◌, refl, sym}
+use Rattle.std.proofs.Common.{◌++◌, refl}
 use Rattle.tc_model.specs.PathStates.{first_items}
 use Rattle.tc_model.specs.Views as see
 use Rattle.tc_rules.specs.Words.{bits_of}

@@ -1,4 +1,4 @@
-use Rattle.std.proofs.Common.{◌<◌, ◌≤◌, ◌∙◌, ◌++◌, ◌∷◌, [], List, ℕ, Bool, ap, drop, get_or, length, refl, arith, if◌then◌else◌}
+use Rattle.std.proofs.Common.{◌<◌, ◌≤◌, ◌∙◌, ◌++◌, ◌∷◌, [], Bool, ap, drop, get_or, length, refl, arith, if◌then◌else◌}
 use Rattle.std.proofs.lemmas.List.{drop_all}
 use Rattle.tc_rules.specs.Rows.{state, words}
 use Rattle.tc_rules.specs.Steps.{ending_alternatives}

@@ -1,5 +1,5 @@
-use Rattle.std.proofs.Common.{◌+◌, ◌<◌, ◌≤◌, ◌∙◌, ap, sym, subst, drop, length, arith, ◌≢◌}
-use Rattle.tc_rules.specs.Words.{are_zero, both_words}
+use Rattle.std.proofs.Common.{◌<◌, ◌≤◌, ◌∙◌, ap, sym, length, arith}
+use Rattle.tc_rules.specs.Words.{are_zero}
 use Rattle.tc_rules.proofs.RowLoops.{apart_goes, met_is, over_both, zero_later, zero_never}
 use Rattle.tc_rules.proofs.rows.Row.is_apart.Goals as goal
 

@@ -1,4 +1,4 @@
-use Rattle.std.proofs.Common.{◌≡◌, ◌<◌, ◌≤◌, ◌∙◌, ap, sym, subst, length, List, ℕ, get_or}
+use Rattle.std.proofs.Common.{◌<◌, ◌≤◌, ◌∙◌, ap, sym, subst, length, List, ℕ, get_or}
 use Rattle.std.proofs.lemmas.List.{drop_all}
 use Rattle.tc_rules.specs.Words.{are_zero}
 use Rattle.tc_rules.proofs.RowLoops.{zero_goes, zero_later, zero_never}

@@ -1,4 +1,4 @@
-use Rattle.tc_rules.proofs.Writing.{push_bits, push_padded, within}
+use Rattle.tc_rules.proofs.Writing.{push_bits, push_padded}
 use Rattle.tc_rules.proofs.rows.Written.push.Goals as goal
 
 pub returns-clause-made : goal.returns-clause-made

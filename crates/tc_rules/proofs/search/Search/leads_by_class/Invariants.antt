@@ -1,5 +1,4 @@
 use Rattle.std.proofs.Common.{◌≡◌, ℕ, Option, Some, flat_map, take}
-use Rattle.std.specs.List.{AllZip}
 use Rattle.tc_rules.specs.Reached as r
 use Rattle.tc_rules.specs.Rows.{words, all_words}
 use Rattle.tc_rules.specs.Words.{both_words}
