@@ -1,6 +1,6 @@
 -- Steps of loops that count, and of those that put spots.
 use Rattle.std.proofs.Common.{◌≡◌, ℕ, ◌+◌, ◌<◌, ◌≤◌, List, [], ◌∷◌, ◌++◌, refl, ap, ◌∙◌, sym, arith, length, map, get_or, drop, append_assoc, add-one, suc, Result, Ok, Err, IfOk, OnOk}
-use Rattle.std.proofs.lemmas.List.{drop_more, drop_all, get_or_default}
+use Rattle.std.proofs.lemmas.List.{drop_more, drop_all}
 use Rattle.tc_model.specs.Sheets as model
 use Rattle.tc_model.specs.Views as see
 use Rattle.tc_model.specs.declared.sheet.Branch.{Branch}

@@ -1,14 +1,14 @@
 -- A marked stylesheet is well-formed.
-use Rattle.std.proofs.Common.{◌≡◌, ◌⊎◌, inl, inr, ℕ, zero, suc, ◌+◌, ◌<◌, ◌≤◌, List, [], ◌∷◌, ◌++◌, refl, ap, ◌∙◌, sym, subst, map, flat_map, length, get_or, Bool, true, false, cond, Option, Some, slice_get, All, Contains, append_assoc, append-nil, arith}
+use Rattle.std.proofs.Common.{◌≡◌, ℕ, zero, suc, ◌+◌, ◌<◌, ◌≤◌, List, [], ◌∷◌, ◌++◌, refl, ap, ◌∙◌, sym, subst, map, flat_map, length, get_or, Bool, true, false, cond, Some, slice_get, All, Contains, append_assoc, append-nil, arith}
 use Rattle.std.proofs.lemmas.List.{get_or_default}
 use Rattle.std.proofs.lemmas.List.Elements.{All-nil, All-cons, All-head, All-tail, Contains-get_or}
-use Rattle.tc_model.specs.Sheets.{Path, no_alternative, Test, Body, no_instruction, put_text, put_element, copy, apply, call, for_each, value, value_of_self, choose, Branches, otherwise, branch, Rule, Sheet, CallFreeBody, p_done, p_text, p_element, p_copy, p_apply, p_call, p_value, p_self, p_choose, p_each, CallFreeBranches, p_otherwise, p_branch, Inlines, BranchesInline, u_done, u_text, u_element, u_copy, u_apply, u_call, u_value, u_self, u_choose, u_each, u_otherwise, u_branch}
+use Rattle.tc_model.specs.Sheets.{no_alternative, Body, no_instruction, put_text, put_element, copy, apply, call, for_each, value, value_of_self, choose, Branches, otherwise, branch, Rule, Sheet, CallFreeBody, p_done, p_text, p_element, p_copy, p_apply, p_call, p_value, p_self, p_choose, p_each, CallFreeBranches, p_otherwise, p_branch, Inlines, BranchesInline, u_done, u_text, u_element, u_copy, u_apply, u_call, u_value, u_self, u_choose, u_each, u_otherwise, u_branch}
 use Rattle.tc_model.specs.WellFormed as w
 use Rattle.tc_model.specs.WellFormed.{ForEach, IsBody, AreBranches, IsRule, IsSheet}
-use Rattle.tc_dead.specs.Spots.{Spot, a_rule, a_named_body, a_branch, same_spot, is_nothing, branches_of, branches_in, eaches_of, eaches_in, NumberedRule, NumberedBody, rules_from, bodies_from, branches_of_all, eaches_of_all, rule_bodies, numbered_rules, numbered_bodies}
-use Rattle.tc_dead.specs.Marked.{mark_name, wrapper_name, mark_before, begun, marked_before, marked_branches, marked_rule, marked_body, marked_at}
-use Rattle.tc_dead.proofs.NumberedSpots.{IsNamed, named_at, marked_named_at}
-use Rattle.tc_dead.proofs.SameParts.{nothing_so, of_last, of_begun}
+use Rattle.tc_dead.specs.Spots.{Spot, a_rule, a_named_body, a_branch, same_spot, is_nothing, branches_of, branches_in, eaches_of, eaches_in, rules_from, bodies_from, branches_of_all, eaches_of_all, rule_bodies, numbered_bodies}
+use Rattle.tc_dead.specs.Marked.{mark_name, wrapper_name, begun, marked_before, marked_branches, marked_rule, marked_body, marked_at}
+use Rattle.tc_dead.proofs.NumberedSpots.{named_at, marked_named_at}
+use Rattle.tc_dead.proofs.SameParts.{nothing_so, of_begun}
 use Rattle.tc_dead.proofs.Lawful.{lawful_mark, lawful_wrapper}
 
 -- numbers from one on, so many

@@ -1,6 +1,6 @@
 -- Instructions, bodies, branches, rules and named bodies as they are marked one after the other.
-use Rattle.std.proofs.Common.{◌≡◌, ◌⊎◌, inl, inr, ℕ, ◌+◌, ◌<◌, ◌≤◌, List, [], ◌∷◌, ◌++◌, refl, ap, ◌∙◌, sym, subst, arith, length, map, get_or, drop, append_assoc, append-nil, Bool, true, false, cond, Bor}
-use Rattle.std.proofs.lemmas.List.{drop_more, drop_all, get_or_default}
+use Rattle.std.proofs.Common.{◌≡◌, ◌⊎◌, inl, inr, ℕ, ◌+◌, ◌<◌, ◌≤◌, List, [], ◌∷◌, ◌++◌, refl, ap, ◌∙◌, sym, arith, length, map, get_or, drop, append_assoc, append-nil, Bool, true, false, cond, Bor}
+use Rattle.std.proofs.lemmas.List.{drop_more, drop_all}
 use Rattle.tc_model.specs.Sheets as s
 use Rattle.tc_model.specs.Sheets.{Body, Branches}
 use Rattle.tc_model.specs.Views.{name, path, test, match_pattern, instruction, body, branches, rule}
@@ -13,12 +13,12 @@ use Rattle.tc_model.specs.declared.sheet.Rule.{Rule}
 use Rattle.tc_model.specs.declared.sheet.Sheet.{Sheet}
 use Rattle.tc_model.specs.Views as see
 use Rattle.tc_model.proofs.ViewsBody.{see_text, see_elem, see_copy, see_apply, see_call, see_value_of, see_value_of_self, see_choose, see_for_each, left_instruction, pushed_branch}
-use Rattle.tc_dead.specs.Spots.{Spot, a_rule, a_named_body, a_branch, same_spot, is_nothing, branches_of, branches_in, eaches_of, eaches_in, branches_of_all, eaches_of_all, rules_from, bodies_from, rule_bodies}
+use Rattle.tc_dead.specs.Spots.{Spot, a_rule, a_named_body, a_branch, same_spot, branches_of, branches_in, eaches_of, eaches_in, branches_of_all, eaches_of_all, rules_from, bodies_from, rule_bodies}
 use Rattle.tc_dead.specs.Marked.{marked_at, wrapper_name, mark_name, mark_before, begun, marked_before, marked_branches, marked_rule, marked_body}
 use Rattle.tc_dead.specs.Views.{bodies, alone, placed, open_branches, IsPast, IsPut, IsPutBody, IsBegunBody, IsMarkedBranches, IsMarkedLast, IsMarkedRules, IsMarkedNamed}
 use Rattle.tc_dead.specs.declared.marking.Numbers.{Numbers}
 use Rattle.tc_dead.proofs.InstructionParts.{Layer, next_branch, no_body_left, choose_branches, choose_eaches, is_something, branches_of_last, branches_by, eaches_by, branches_of_text, branches_of_elem, branches_of_copy, branches_of_apply, branches_of_call, branches_of_value, branches_of_self, branches_of_choose, branches_of_each, eaches_of_text, eaches_of_elem, eaches_of_copy, eaches_of_apply, eaches_of_call, eaches_of_value, eaches_of_self, eaches_of_choose, eaches_of_each}
-use Rattle.tc_dead.proofs.CountSteps.{branches_count, eaches_count, branches_counted, eaches_counted, branches_count_in, eaches_count_in, branches_counted_in, eaches_counted_in, branches_count_all, eaches_count_all, branches_counted_all, eaches_counted_all, rule_bodies_so}
+use Rattle.tc_dead.proofs.CountSteps.{branches_counted, eaches_counted, branches_counted_in, eaches_counted_in, branches_counted_all, eaches_counted_all, rule_bodies_so}
 
 -- the body of a branch, whose number is the first, as it is marked
 pub record IsMarkedBranch (p : Spot) (b : List Instr) (old new : Numbers) (marked : List Instr) : Type 0 where

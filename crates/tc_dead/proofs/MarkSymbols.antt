@@ -1,13 +1,12 @@
 -- The stylesheets in which one spot or another is marked have the same symbols: they mention the same names and namespaces.
-use Rattle.std.proofs.Common.{◌≡◌, ◌⊎◌, inl, inr, ℕ, zero, suc, ◌+◌, ◌<◌, ◌≤◌, List, [], ◌∷◌, ◌++◌, refl, ap, ◌∙◌, sym, subst, map, flat_map, length, Bool, true, false, cond, nat_lt, Contains, arith, rules}
-use Rattle.tc_model.specs.Names.{ExpandedName}
+use Rattle.std.proofs.Common.{◌≡◌, ◌⊎◌, inl, inr, ℕ, zero, suc, ◌+◌, ◌<◌, ◌≤◌, List, [], ◌∷◌, ◌++◌, refl, ap, sym, subst, map, flat_map, length, Bool, true, false, cond, Contains, arith}
 use Rattle.tc_model.specs.Grammars.{Grammar}
 use Rattle.tc_model.specs.Sheets.{Body, no_instruction, put_text, put_element, copy, apply, call, for_each, value, value_of_self, choose, Branches, otherwise, branch, Path, Test, MatchPattern, Rule, Sheet}
 use Rattle.tc_model.specs.Symbols.{Mention, a_name, mention_cmp, mentions_of_name, mentions_of_test, in_path, in_test, in_pattern, in_body, in_branches, with_namespace, mentions_in_grammar, mentions_in_sheet, mentions_in, in_order, symbols_of}
 use Rattle.tc_alpha.proofs.Orders.{total, same}
 use Rattle.tc_alpha.proofs.Members.{Has, has_from_contains, has_front, has_back, has_either, in_order_rises, has_from_in_order, in_order_has, is_in_order}
 use Rattle.tc_dead.specs.Spots.{Spot, a_rule, a_named_body, a_branch, same_spot, is_nothing, branches_of, branches_in, eaches_of, eaches_in, NumberedRule, NumberedBody, rules_from, bodies_from, branches_of_all, eaches_of_all, rule_bodies, numbered_rules, numbered_bodies, up_to, spots_of}
-use Rattle.tc_dead.specs.Marked.{mark_name, wrapper_name, mark_before, begun, marked_before, marked_branches, marked_rule, marked_body, marked_at, plain_schema}
+use Rattle.tc_dead.specs.Marked.{mark_name, wrapper_name, begun, marked_before, marked_branches, marked_rule, marked_body, marked_at, plain_schema}
 use Rattle.tc_dead.proofs.NumberedSpots.{same_spots}
 use Rattle.tc_dead.proofs.SameParts.{nothing_so}
 

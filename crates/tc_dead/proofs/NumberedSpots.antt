@@ -2,11 +2,11 @@
 use Rattle.std.proofs.Common.{◌≡◌, ℕ, ◌+◌, List, [], ◌∷◌, zero, suc, refl, ap, ◌∙◌, sym, map, Bool, true, false, cond, ◌&&◌, nat_eq, int_lt, Option, Some, None, option_map, slice_get, rules, arith}
 use Rattle.std.proofs.lemmas.Bool.{true≢false}
 use Rattle.tc_model.specs.Chains.{Chain}
-use Rattle.tc_model.specs.Sheets.{Body, no_instruction, Rule, Sheet}
+use Rattle.tc_model.specs.Sheets.{Body, Rule, Sheet}
 use Rattle.tc_model.specs.Paths.{fits}
 use Rattle.tc_model.specs.Meaning.{better, rule_of}
-use Rattle.tc_dead.specs.Spots.{Spot, a_rule, a_named_body, a_branch, same_spot, is_nothing, branches_of, eaches_of, NumberedRule, NumberedBody, rules_from, bodies_from, numbered_rules, numbered_bodies, better_numbered, numbered_rule_of}
-use Rattle.tc_dead.specs.Marked.{marked_rule, marked_body, marked_at}
+use Rattle.tc_dead.specs.Spots.{Spot, a_rule, a_named_body, a_branch, same_spot, branches_of, eaches_of, NumberedRule, NumberedBody, rules_from, bodies_from, numbered_rules, better_numbered, numbered_rule_of}
+use Rattle.tc_dead.specs.Marked.{marked_rule, marked_body}
 
 number_same : (i j : ℕ) → nat_eq i j ≡ true → i ≡ j
 number_same i j e = search (rules, arith)

@@ -1,5 +1,5 @@
 -- What the plain schema in an arena is seen as.
-use Rattle.std.proofs.Common.{◌≡◌, ◌∙◌, List, [], ◌∷◌, refl, ap, map, Bor}
+use Rattle.std.proofs.Common.{◌≡◌, ◌∙◌, List, [], ◌∷◌, ap, map, Bor}
 use Rattle.tc_model.specs.Grammars as g
 use Rattle.tc_model.specs.Views.{name, class, classes, pattern, patterns, element_pattern, grammar}
 use Rattle.tc_model.specs.declared.tree.Name.{Name}

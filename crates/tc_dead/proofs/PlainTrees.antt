@@ -1,11 +1,11 @@
 -- Which trees the plain schema matches: texts, and elements around what was copied.
-use Rattle.std.proofs.Common.{◌≡◌, ◌⊎◌, inl, inr, ℕ, List, [], ◌∷◌, ◌++◌, refl, ap, ◌∙◌, sym, subst, Bool, true, false, cond, ◌&&◌, ◌||◌, IsTrue, Some}
+use Rattle.std.proofs.Common.{◌≡◌, ◌⊎◌, inl, inr, ℕ, List, ◌++◌, refl, ap, ◌∙◌, sym, subst, Bool, true, false, cond, ◌&&◌, ◌||◌, Some}
 use Rattle.std.proofs.lemmas.Bool.{true≢false}
 use Rattle.tc_model.specs.Names.{ExpandedName, same_name}
 use Rattle.tc_model.specs.Trees.{Trees, none, text, element, beside, is_white_space_only, joined_to, joined, kept, dropped, normal_form}
 use Rattle.tc_model.specs.Grammars as g
 use Rattle.tc_model.specs.Grammars.{ElementPattern, element_at, InClass}
-use Rattle.tc_model.specs.Matching.{AreTexts, Matches, m_choice, m_empty, m_text, m_one_or_more, m_ref, OneOf, here, there, Repeated, once, again}
+use Rattle.tc_model.specs.Matching.{AreTexts, Matches, m_choice, m_empty, m_text, m_one_or_more, m_ref, here, there, Repeated, once, again}
 use Rattle.tc_dead.specs.Marked.{wrapper_name, mark_name, either, plain_content, plain_schema}
 
 abbrev pub is_none : Trees → Bool

@@ -5,7 +5,7 @@ use Rattle.tc_model.specs.Sheets.{Body, no_instruction, put_text, put_element, c
 use Rattle.tc_model.specs.Meaning.{all_children}
 use Rattle.tc_model.specs.Numbered.{numbers_below, each_once}
 use Rattle.tc_model.specs.SameTests.{same_path, same_test}
-use Rattle.tc_model.specs.Numberings.{predicates_in_path, predicates_in_test, predicates_in_pattern, predicates_in_body, predicates_in_branches, predicates_of, Move, same_move, moves_in_body, moves_in_branches, moves_of, looks_in_test, looks_in_body, looks_in_branches, looks_of}
+use Rattle.tc_model.specs.Numberings.{predicates_in_path, predicates_in_test, predicates_in_pattern, predicates_in_body, predicates_in_branches, predicates_of, same_move, moves_in_body, moves_in_branches, moves_of, looks_in_test, looks_in_body, looks_in_branches, looks_of}
 use Rattle.tc_dead.specs.Spots.{Spot, a_rule, a_named_body, a_branch, same_spot, is_nothing, branches_of, branches_in, eaches_of, eaches_in, NumberedRule, NumberedBody, rules_from, bodies_from, branches_of_all, eaches_of_all, rule_bodies, numbered_rules, numbered_bodies}
 use Rattle.tc_dead.specs.Marked.{mark_before, begun, marked_before, marked_branches, marked_rule, marked_body, marked_at}
 use Rattle.tc_dead.specs.Laws.{patterns_of}

@@ -1,8 +1,8 @@
 -- What a marked stylesheet puts out, and what it tells: by induction on what the stylesheet itself does.
 use Rattle.std.proofs.Common.{◌≡◌, ◌⊎◌, inl, inr, ℕ, ◌+◌, List, [], ◌∷◌, refl, ap, ◌∙◌, sym, subst, Bool, true, false, cond, ◌&&◌, Option, Some, None, option_map, slice_get}
 use Rattle.std.proofs.lemmas.Bool.{true≢false}
-use Rattle.tc_model.specs.Names.{ExpandedName, same_name}
-use Rattle.tc_model.specs.Trees.{Trees, none, text, element, beside, is_white_space_only, kept, normal_form}
+use Rattle.tc_model.specs.Names.{ExpandedName}
+use Rattle.tc_model.specs.Trees.{Trees, none, text, element, beside, is_white_space_only, normal_form}
 use Rattle.tc_model.specs.Chains.{an_element, a_text, Chain, Node, whole, one, top, node_of, string_value, first_node}
 use Rattle.tc_model.specs.Sheets.{Path, Test, Body, no_instruction, put_text, put_element, copy, apply, call, for_each, value, value_of_self, choose, Branches, otherwise, branch, Rule, Sheet}
 use Rattle.tc_model.specs.Outcomes.{Outcome, nothing, join, within, counted, put, put_around, copied}
@@ -16,10 +16,10 @@ use Rattle.tc_model.proofs.Total.{instantiates_total}
 use Rattle.tc_model.proofs.Unique.{does_unique}
 use Rattle.tc_dead.specs.Spots.{Spot, a_rule, a_named_body, a_branch, same_spot, is_nothing, branches_of, branches_in, eaches_of, eaches_in, NumberedRule, NumberedBody, branches_of_all, eaches_of_all, rule_bodies, numbered_rules, numbered_bodies, numbered_rule_of}
 use Rattle.tc_dead.specs.Instantiated.{IsInstantiated, ByBody, ByBranches, ByMode, ByModes, ByBodies, by_apply, by_call, by_called, by_element, by_copy, by_for_each, by_choose, after_text, after_element, after_copy, after_apply, after_call, after_value, after_self, after_choose, after_for_each, is_this, by_this, by_later, is_last, by_last, is_rule, by_rule, by_built_in, at_this, at_later, on_this, on_later}
-use Rattle.tc_dead.specs.Marked.{mark_name, wrapper_name, mark_before, begun, marked_before, marked_branches, marked_rule, marked_body, marked_at}
+use Rattle.tc_dead.specs.Marked.{mark_name, wrapper_name, begun, marked_before, marked_branches, marked_rule, marked_at}
 use Rattle.tc_dead.specs.Tells.{Tells}
-use Rattle.tc_dead.proofs.PlainTrees.{is_plain, is_wrapped, is_clear, clear_text, clear_beside, and_both, and_first, and_second, IsShaped, shaped_beside, wrapped_clear, wrapped_element, plain_matches, matches_plain}
-use Rattle.tc_dead.proofs.NumberedSpots.{spot_same, same_spots, marked_among, rule_of_node, IsNamed, named_at, marked_named_at}
+use Rattle.tc_dead.proofs.PlainTrees.{is_plain, is_wrapped, is_clear, clear_text, clear_beside, and_both, IsShaped, shaped_beside, wrapped_clear, wrapped_element, plain_matches, matches_plain}
+use Rattle.tc_dead.proofs.NumberedSpots.{spot_same, same_spots, marked_among, rule_of_node, named_at, marked_named_at}
 
 -- trees are clear exactly where something doesn't hold
 data Told (h : Trees) (R : Type 0) : Type 0 where

@@ -4,7 +4,7 @@ use Rattle.tc_model.specs.Grammars.{Grammar, IsGrammar}
 use Rattle.tc_model.specs.States.{output, state_count}
 use Rattle.tc_model.specs.SimplifiesCounts.{IsWithinCounts}
 use Rattle.tc_model.specs.Chains.{Chain}
-use Rattle.tc_model.specs.Sheets.{MatchPattern, Rule, Sheet}
+use Rattle.tc_model.specs.Sheets.{MatchPattern, Sheet}
 use Rattle.tc_model.specs.Meaning.{rule_of}
 use Rattle.tc_model.specs.Symbols.{symbols_of}
 use Rattle.tc_model.specs.Numberings.{predicates_of, moves_of, looks_of}

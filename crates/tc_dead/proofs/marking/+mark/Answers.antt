@@ -1,7 +1,6 @@
-use Rattle.std.proofs.Common.{◌≡◌, ◌<◌, ◌≤◌, ◌∙◌, refl, sym, ap, false, length, arith, rules, List}
+use Rattle.std.proofs.Common.{◌≡◌, ◌<◌, ◌≤◌, refl, ap, length, arith, rules}
 use Rattle.tc_model.specs.Sheets as model
 use Rattle.tc_model.specs.Views as see
-use Rattle.tc_model.specs.declared.sheet.Instr.TheVariants as v
 use Rattle.tc_dead.specs.Marked as m
 use Rattle.tc_dead.specs.Views.{seen, placed, IsBegunBody, IsPutBody}
 use Rattle.tc_dead.proofs.CountSteps.{if_ok, on_ok, branches_count, eaches_count, branches_count_in, eaches_count_in}
@@ -38,7 +37,7 @@ put_one-returns-in_ok-repeated-in-ForEach t c =
     on_ok c.put_for_each.result _ _
     (λ (h : (rest : model.Body) → placed c.put_for_each.new.found.items rest
     ≡ placed c.args.found.now.items (model.for_each c.in_ok-number-in-ForEach.number (see.path c.in-ForEach.path) (see.body c.in_ok-repeated-in-ForEach.repeated.now) rest)).
-    put_each (seen c.args.marker.now.spot) c.args.instruction.now c.args.next.now c.marked_body-in-ForEach.new.next c.args.found.now.items c.put_for_each.new.found.items c.in-ForEach.field-0 c.in-ForEach.path c.in-ForEach.inner
+    put_each (seen c.args.marker.now.spot) c.args.instruction.now c.args.next.now c.marked_body-in-ForEach.new.next c.args.found.now.items c.put_for_each.new.found.items _ c.in-ForEach.path c.in-ForEach.inner
     c.in_ok-number-in-ForEach.number (record { branch = c.args.next.now.branch; each = c.take_number.new.next }) c.in_ok-repeated-in-ForEach.repeated c.in-ForEach.is c.in_ok-number-in-ForEach.ensures.ok refl c.in_ok-number-in-ForEach.ensures.counted
     c.in_ok-repeated-in-ForEach.ensures h)
     c.put_for_each.ensures

@@ -1,10 +1,8 @@
-use Rattle.std.proofs.Common.{◌≡◌, sym, subst}
+use Rattle.std.proofs.Common.{sym, subst}
 use Rattle.tc_model.specs.Views as see
 use Rattle.tc_model.specs.Sheets.{Sheet}
-use Rattle.tc_model.specs.Trees.{Trees}
 use Rattle.tc_model.specs.Safety.{IsResultOf}
 use Rattle.tc_model.specs.WellFormed.{IsSheet}
-use Rattle.tc_dead.specs.Marked.{marked_at}
 use Rattle.tc_dead.specs.Views.{seen}
 use Rattle.tc_dead.proofs.LawfulMarks.{lawful_sheet}
 use Rattle.tc_dead.proofs.MarkSteps.{made_so}

@@ -1,4 +1,4 @@
-use Rattle.std.proofs.Common.{refl, ap, map, ◌++◌, rules, arith}
+use Rattle.std.proofs.Common.{refl, ap, map, ◌++◌, rules}
 use Rattle.tc_model.specs.Views as see
 use Rattle.tc_dead.specs.Spots.{rules_from}
 use Rattle.tc_dead.specs.Marked.{marked_rule}

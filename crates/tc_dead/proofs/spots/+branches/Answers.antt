@@ -1,4 +1,4 @@
-use Rattle.std.proofs.Common.{◌≡◌, ◌<◌, ◌+◌, length, arith, rules, IfOk, Ok, Err}
+use Rattle.std.proofs.Common.{◌≡◌, ◌<◌, ◌+◌, length, arith, rules}
 use Rattle.tc_model.specs.Views as see
 use Rattle.tc_model.specs.Sheets as model
 use Rattle.tc_model.specs.declared.sheet.Instr.TheVariants as v

@@ -1,8 +1,3 @@
-use Rattle.std.proofs.Common.{◌≡◌, ◌∙◌, ◌++◌, List, [], ℕ, ◌+◌, ap, sym, map, append_assoc, length, arith}
-use Rattle.tc_model.specs.Views as see
-use Rattle.tc_dead.specs.Spots as s
-use Rattle.tc_dead.specs.Spots.{up_to, spots_of}
-use Rattle.tc_dead.specs.Views.{seen}
 use Rattle.tc_dead.proofs.CountSteps.{all_spots}
 use Rattle.tc_dead.proofs.spots.places.Goals as goal
 
