@@ -1,5 +1,5 @@
 -- An entry that is that of an ancestor state before.
-use Rattle.std.proofs.Common.{◌≡◌, ◌<◌, ◌≤◌, ◌+◌, ◌*◌, ◌⊎◌, inl, inr, ℕ, List, Option, Some, None, false, option_map, subst, sym, ap, ◌∙◌, refl, arith}
+use Rattle.std.proofs.Common.{◌≡◌, ◌<◌, ◌≤◌, ◌+◌, ◌*◌, inl, inr, ℕ, List, Option, Some, None, option_map, subst, sym, ap, ◌∙◌, refl, arith}
 use Rattle.std.proofs.lemmas.Option.{same_Some}
 use Rattle.tc_mat.specs.Matrix.{Matrix}
 use Rattle.tc_model.specs.Letters as letters
@@ -21,7 +21,7 @@ use Rattle.tc_rows.proofs.PairLaws.{same_self, same_back, same_on, product_same,
 use Rattle.tc_beh.specs.Above.{letter_of, pairs_at}
 use Rattle.tc_beh.specs.Entries.{IsUnder, IsEntryAt}
 use Rattle.tc_beh.specs.Putting.{has}
-use Rattle.tc_beh.specs.Templates.{body_meant, IsAlike}
+use Rattle.tc_beh.specs.Templates.{IsAlike}
 use Rattle.tc_beh.specs.declared.entries.Node.{Node}
 use Rattle.tc_beh.proofs.Coming.{row_step}
 use Rattle.tc_beh.proofs.Nodes.{flat_one, rises}

@@ -1,8 +1,7 @@
 -- An entry of a node that a state doesn't hit, where nothing comes below.
-use Rattle.std.proofs.Common.{◌≡◌, ◌<◌, ◌+◌, ◌*◌, ℕ, List, true, false, nat_lt, Option, Some, None, subst, sym, ap, ◌∙◌, refl, arith}
+use Rattle.std.proofs.Common.{◌≡◌, ◌<◌, ◌+◌, ◌*◌, ℕ, List, true, false, nat_lt, subst, refl, arith}
 use Rattle.std.proofs.lemmas.Bool.{le-ltb}
 use Rattle.tc_mat.specs.Matrix.{Matrix, IsIdentity}
-use Rattle.tc_mat.specs.Held.{Held}
 use Rattle.tc_model.specs.Letters as letters
 use Rattle.tc_model.specs.Letters.{of_symbol, of_text}
 use Rattle.tc_model.specs.PathStates.{State, is_empty_state}

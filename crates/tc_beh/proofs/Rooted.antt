@@ -1,5 +1,5 @@
 -- The root of a document as a place, and what is put out on it.
-use Rattle.std.proofs.Common.{◌≤◌, ◌≡◌, ◌<◌, ◌+◌, ◌==◌, [], ℕ, max, List, length, get_or, Bool, Option, option_map, All, subst, sym, ap, ap₂, ◌∙◌, refl, arith}
+use Rattle.std.proofs.Common.{◌≤◌, ◌≡◌, ◌<◌, ◌==◌, [], ℕ, max, List, length, get_or, Bool, Option, option_map, All, subst, sym, ap, ap₂, ◌∙◌, refl, arith}
 use Rattle.std.proofs.lemmas.List.{get_or_default}
 use Rattle.tc_model.specs.States.{output, automaton, IsPart, the_start, first_state, IsAccepting}
 use Rattle.tc_model.specs.Chains.{top}

@@ -1,5 +1,5 @@
 -- Triples of one machine have the same schemas, symbols and rules.
-use Rattle.std.proofs.Common.{◌≡◌, ◌+◌, ℕ, List, length, subst, sym, ap, ap₂, ◌∙◌}
+use Rattle.std.proofs.Common.{◌≡◌, ℕ, List, length, subst, sym, ap, ap₂, ◌∙◌}
 use Rattle.tc_model.specs.Grammars.{Grammar, Pattern, ElementPattern}
 use Rattle.tc_model.specs.States.{Side, output, state_count, text_leaf, IsEdge}
 use Rattle.tc_model.specs.Symbols.{Mention}

@@ -1,10 +1,10 @@
 -- Sets of pairs that stand open in a body, and those that were met on the way.
-use Rattle.std.specs.Prelude.{◌≡◌, ◌<◌, ◌≤◌, ℕ, suc, List, [], map, drop, get_or, length, Option, Some, None, All, IfSome}
+use Rattle.std.specs.Prelude.{◌≡◌, ◌<◌, ◌≤◌, ℕ, List, length, Option, Some, None, All, IfSome}
 use Rattle.tc_hedge.specs.Leading.{ArePairsAround}
 use Rattle.tc_hedge.specs.Stands.{Stands}
 use Rattle.tc_hedge.specs.declared.hedge.Hedge.{Hedge}
 use Rattle.tc_mat.specs.Held.{Held}
-use Rattle.tc_mat.specs.Matrix.{Matrix, IsIdentity}
+use Rattle.tc_mat.specs.Matrix.{Matrix}
 use Rattle.tc_model.specs.Grammars.{Grammar}
 use Rattle.tc_model.specs.Names.{ExpandedName}
 use Rattle.tc_model.specs.States.{Side}

@@ -1,4 +1,4 @@
-use Rattle.std.proofs.Common.{◌≡◌, ◌∙◌, inl, inr, sym}
+use Rattle.std.proofs.Common.{◌∙◌, inl, inr, sym}
 use Rattle.tc_model.specs.StateCounts.{PathUse}
 use Rattle.tc_beh.specs.Above.{letter_of}
 use Rattle.tc_beh.proofs.Hitting.{of_move, state_told, hit_told, lettered}

@@ -1,11 +1,10 @@
-use Rattle.std.proofs.Common.{◌≡◌, ◌<◌, ◌+◌, ◌*◌, inl, inr, ℕ, List, length, get_or, subst, sym, ap, ◌∙◌, refl, arith}
+use Rattle.std.proofs.Common.{◌≡◌, ◌<◌, ◌+◌, ◌*◌, inl, inr, ℕ, length, get_or, subst, sym, ap, ◌∙◌, refl, arith}
 use Rattle.tc_mat.specs.Held.{Held}
-use Rattle.tc_mat.specs.Matrix.{Matrix}
 use Rattle.tc_rules.specs.Kept.{told}
 use Rattle.tc_rules.specs.RulesView.{RulesView, move_count}
 use Rattle.tc_rows.specs.Triples.{ancestors, moves}
 use Rattle.tc_rows.proofs.Append.{entry_index}
-use Rattle.tc_beh.specs.Entries.{AreCalledOn, IsEntryAt, IsNewEntry}
+use Rattle.tc_beh.specs.Entries.{IsEntryAt, IsNewEntry}
 use Rattle.tc_beh.specs.Held.{set_at}
 use Rattle.tc_beh.specs.Rooms.{output_at}
 use Rattle.tc_beh.proofs.Looking.{moves_told}

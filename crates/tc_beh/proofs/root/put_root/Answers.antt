@@ -4,7 +4,7 @@ use Rattle.tc_mat.specs.Matrix.{Matrix}
 use Rattle.tc_model.specs.Sheets.{Body}
 use Rattle.tc_rules.specs.Kept.{told}
 use Rattle.tc_rules.specs.RulesView.{RulesView}
-use Rattle.tc_rows.specs.Triples.{outputs, sheet}
+use Rattle.tc_rows.specs.Triples.{sheet}
 use Rattle.tc_beh.specs.Callees.{AreCalleesFirst}
 use Rattle.tc_beh.specs.Heights.{deepest}
 use Rattle.tc_rows.specs.Bodies.{on_root}

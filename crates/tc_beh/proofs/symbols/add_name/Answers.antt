@@ -1,8 +1,8 @@
-use Rattle.std.proofs.Common.{◌≡◌, ◌∙◌, Option, Some, IfSome}
+use Rattle.std.proofs.Common.{◌∙◌, Option, Some, IfSome}
 use Rattle.std.proofs.lemmas.List.{length-set}
 use Rattle.std.proofs.lemmas.List.Elements.{All-set}
 use Rattle.tc_model.specs.Views.{name}
-use Rattle.tc_beh.specs.Named.{AreNamed, IsSymbol}
+use Rattle.tc_beh.specs.Named.{IsSymbol}
 use Rattle.tc_beh.specs.declared.symbols.Named.{Named}
 use Rattle.tc_beh.proofs.symbols.add_name.Goals as goal
 

@@ -1,4 +1,4 @@
-use Rattle.std.proofs.Common.{◌≡◌, ◌<◌, ◌+◌, ℕ, List, Some, subst, sym, arith}
+use Rattle.std.proofs.Common.{◌<◌, ◌+◌, subst, sym, arith}
 use Rattle.tc_model.specs.Sheets.{Sheet}
 use Rattle.tc_model.specs.RuleStates.{IsRuleOf, fits_below}
 use Rattle.tc_model.specs.Numberings.{predicates_of}
@@ -16,17 +16,6 @@ use Rattle.tc_beh.proofs.Deepest.{each_body_low}
 use Rattle.tc_beh.proofs.Meant.{each_part_at, each_meant, mode_meant, sheet_told, rule_low}
 use Rattle.tc_beh.proofs.Marking.{predicates_told}
 use Rattle.tc_model.specs.Letters.{IsLetter}
-use Rattle.tc_model.specs.PathStates.{State}
-use Rattle.tc_model.specs.StateCounts.{PathUse}
-use Rattle.tc_model.specs.Symbols.{Mention}
-use Rattle.tc_rules.specs.Kept.{IsRulesOf}
-use Rattle.tc_rules.specs.RulesView.{IsStateOf, move_count}
-use Rattle.tc_rules.specs.States.{Going}
-use Rattle.tc_rules.specs.Tasks.{IsMoveAt}
-use Rattle.tc_rules.specs.declared.walk.Job.{Job}
-use Rattle.tc_rules.specs.declared.rules.Rules.{Rules}
-use Rattle.tc_rows.specs.Triples.{Triple}
-use Rattle.tc_beh.specs.Stands.{IsRulesIn}
 use Rattle.tc_beh.proofs.Hitting.{is_job, told_task}
 use Rattle.tc_beh.proofs.templates.template_at.Goals as goal
 

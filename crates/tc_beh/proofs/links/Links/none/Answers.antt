@@ -1,4 +1,4 @@
-use Rattle.std.proofs.Common.{◌≡◌, ℕ, List, Option, Some, None, replicate, All, IfSome, subst, sym, refl}
+use Rattle.std.proofs.Common.{◌≡◌, List, Option, Some, None, replicate, All, IfSome, subst, sym, refl}
 use Rattle.std.proofs.lemmas.List.Elements.{All-replicate}
 use Rattle.tc_mat.specs.Held.{Held}
 use Rattle.tc_beh.specs.Links.{IsLink}

@@ -1,4 +1,4 @@
-use Rattle.std.proofs.Common.{◌≡◌, ◌<◌, Option, Some, None, IfSome, ℕ, List, length, slice_get, refl, subst, sym, arith}
+use Rattle.std.proofs.Common.{◌≡◌, ◌<◌, Option, Some, None, IfSome, ℕ, length, slice_get, refl, subst, sym, arith}
 use Rattle.std.proofs.lemmas.Option.{get_or_from_slice_get}
 use Rattle.tc_mat.specs.Matrix.{Matrix, IsIdentity}
 use Rattle.tc_mat.specs.Held.{Held}

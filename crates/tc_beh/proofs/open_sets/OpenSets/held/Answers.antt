@@ -1,4 +1,4 @@
-use Rattle.std.proofs.Common.{◌≡◌, ◌∙◌, Option, ℕ, get_or, subst, sym, ap}
+use Rattle.std.proofs.Common.{◌≡◌, ◌∙◌, Option, ℕ, subst, sym, ap}
 use Rattle.std.proofs.lemmas.List.{get_or_default}
 use Rattle.tc_beh.specs.Held.{set_at}
 use Rattle.tc_beh.specs.Opening.{Open, AreLinked, set_or, set_of, no_set}

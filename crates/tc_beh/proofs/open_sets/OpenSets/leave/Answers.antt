@@ -1,4 +1,4 @@
-use Rattle.std.proofs.Common.{◌≡◌, ◌∙◌, set, get_or, subst, sym}
+use Rattle.std.proofs.Common.{◌≡◌, ◌∙◌, get_or, subst, sym}
 use Rattle.tc_mat.specs.Matrix.{IsIdentity, HaveSamePairs}
 use Rattle.tc_beh.specs.Opening.{Open, IsOpenSet, no_set, set_of}
 use Rattle.tc_beh.specs.declared.open_sets.OpenSet.{OpenSet}

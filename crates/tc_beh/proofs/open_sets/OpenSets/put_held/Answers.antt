@@ -1,4 +1,4 @@
-use Rattle.std.proofs.Common.{◌≡◌, ◌∙◌, ◌<◌, ℕ, Option, IfSome, length, set, get_or, subst, sym, ap}
+use Rattle.std.proofs.Common.{◌≡◌, ◌∙◌, ◌<◌, IfSome, length, set, subst, sym, ap}
 use Rattle.tc_mat.specs.Matrix.{Matrix, IsComposition}
 use Rattle.tc_beh.specs.Held.{set_at}
 use Rattle.tc_beh.specs.Opening.{Open, AreLinked, IsOpenSet, IsBeside, no_set}
