@@ -9,6 +9,8 @@ mod certificate_answers;
 #[cfg(test)]
 mod certificate_texts;
 #[cfg(test)]
+mod dead_spots;
+#[cfg(test)]
 mod matrices;
 #[cfg(test)]
 mod path_states;

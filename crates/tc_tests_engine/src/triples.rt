@@ -52,7 +52,7 @@ pub(crate) fn schema_of<'b>(arena: &'b Bump, text: &str) -> Result<Grammar<'b>, 
 }
 
 /// The stylesheet of a text.
-fn sheet_of<'b>(arena: &'b Bump, text: &str) -> Result<Sheet<'b>, NoMachine>
+pub(crate) fn sheet_of<'b>(arena: &'b Bump, text: &str) -> Result<Sheet<'b>, NoMachine>
     ensures { IfOk result (λ x. IsSheet (see.sheet x)) }
 {
     if text.len() > LONGEST {
