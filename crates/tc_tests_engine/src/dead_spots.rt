@@ -200,38 +200,3 @@ fn marked_stylesheets_put_out_what_is_told(rt: HostRuntime) -> Result<(), Fail> 
     }
     Ok(())
 }
-
-/// Instructions within one another, each in a choice.
-fn nested(alloc: Global, depth: u32) -> Result<String, NoMemory> {
-    let mut text = String::from_str(alloc, "<xsl:template match=\"a\">")?;
-    for _ in 0..depth {
-        text.push_str("<xsl:if test=\"b\">")?;
-    }
-    for _ in 0..depth {
-        text.push_str("</xsl:if>")?;
-    }
-    text.push_str("</xsl:template>")?;
-    sheet_text(alloc, text.as_str())
-}
-
-/// How many spots a stylesheet has that nests so deep, if the innermost one can be marked.
-fn count_nested(alloc: Global, depth: u32) -> Result<usize, NoMemory> {
-    let arena = Bump::new(alloc);
-    let text = nested(alloc, depth)?;
-    let Ok(sheet) = sheet_of(&arena, text.as_str()) else {
-        return Ok(0);
-    };
-    let spots = places(&arena, &sheet)?;
-    if let Some(last) = spots.last() {
-        marked(&arena, &sheet, *last)?;
-    }
-    Ok(spots.len())
-}
-
-/// A stylesheet nests at most 2,000 deep, its own element and that of the template being the first two.
-#[test]
-fn goes_down_two_thousand_levels(rt: HostRuntime) -> Result<(), Fail> {
-    let count = count_nested(rt.alloc(), 1998)?;
-    assert!(rt; count == 1999);
-    Ok(())
-}
