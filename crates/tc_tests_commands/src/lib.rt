@@ -14,8 +14,6 @@ mod demonstrations;
 #[cfg(test)]
 mod dtd;
 #[cfg(test)]
-mod faults;
-#[cfg(test)]
 mod inclusion;
 #[cfg(test)]
 mod pieces;
