@@ -126,6 +126,7 @@ def main():
                 campaign.run(kind)
         except KeyboardInterrupt:
             print("ended from outside")
+        caller.end()
     sys.exit(campaign.summary())
 
 

@@ -250,7 +250,7 @@ row '1 unsafe' 'residues 3 5 7 19' check I O S
 row '1 unsafe' 'residues 3 5 7 19' prove I O S
 row '1 not-included' 'residues 3 5 7 19' include I A
 row '1 different' 'residues 3 5 7 19' same I A
-row '0 accepted' 'rows 3999' verify I O S C
+beyond '0 accepted' 'rows 3999' verify I O S C
 row '0 xslt-typecheck certificate 2' 'rows 3999' upgrade C
 
 # What is long, in rows.

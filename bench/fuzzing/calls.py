@@ -123,7 +123,7 @@ class Waiting:
         orders, self.orders = os.pipe()
         self.replies, replies = os.pipe()
         actions = [(os.POSIX_SPAWN_DUP2, orders, ORDERS), (os.POSIX_SPAWN_DUP2, replies, REPLIES)]
-        started(program, words, actions, {"LD_PRELOAD": str(library)})
+        self.process = started(program, words, actions, {"LD_PRELOAD": str(library)})
         os.close(orders)
         os.close(replies)
 
@@ -131,6 +131,10 @@ class Waiting:
         """How another copy ends, its kilobytes, and its microseconds on a processor."""
         os.write(self.orders, b".")
         return REPLY.unpack(os.read(self.replies, REPLY.size))
+
+    def end(self):
+        os.close(self.orders)
+        os.waitpid(self.process, 0)
 
 
 class Caller:
@@ -144,6 +148,11 @@ class Caller:
         self.library = Path("forks.so").resolve()
         subprocess.run(["cc", "-shared", "-fPIC", "-O1", "-o", self.library, Path(__file__).with_name("forks.c")], check=True)
         signal.signal(signal.SIGALRM, stop)
+
+    def end(self):
+        """Ends the programs that wait."""
+        for waiting in self.waiting.values():
+            waiting.end()
 
     def put(self, name, text):
         """Makes a file."""
