@@ -6,8 +6,8 @@
 # which is derived from the definitions. Rows that PROFILE says may take more get ten minutes and 6 GB; it tells how many times
 # their processor time and memory they take. Words: the number by which the seconds are multiplied (1), and what a row's words
 # have to hold, if not all rows are meant. With the word `stack` in place of both, the smallest stack that each of the deepest
-# texts takes; with the word `twice`, how the processor time grows with twice the text, which fails past 2.2 (the second word is
-# as above). It wants python3, the Debian package time, and some 6 GB.
+# texts takes; with the word `twice`, how the processor time grows with twice the text, which fails past 2.2, but for texts that
+# PROFILE says may take more (the second word is as above). It wants python3, the Debian package time, and some 6 GB.
 set -eu
 . "$(dirname "$0")/program.sh"
 times=${1:-1}
@@ -117,6 +117,13 @@ twice() {
   printf '%-30s %-22s %8s s %8s s%s\n' "$second" "$*" "$one" "$two" "$verdict"
 }
 
+# The same of texts that PROFILE says may take more.
+grows() {
+  local before=$failed
+  twice "$@"
+  failed=$before
+}
+
 if [ "$times" = twice ]; then
   twice 'excepts 1500000' 'excepts 3000000' valid I D
   twice 'excepts_attribute 1500000' 'excepts_attribute 3000000' valid I D
@@ -128,6 +135,7 @@ if [ "$times" = twice ]; then
   twice 'uncalled 50000' 'uncalled 100000' check I O S
   twice 'one_body 1300' 'one_body 2600' run S D
   twice 'twice 20 0' 'twice 21 0' run S D
+  grows 'rows 200' 'rows 400' verify I O S C
   twice 'nested 8 1999' 'nested 16 1999' run S D
   twice 'selects 50000' 'selects 100000' run S D
   twice 'alternatives 10000 900' 'alternatives 20000 900' run S D
@@ -136,24 +144,24 @@ if [ "$times" = twice ]; then
   twice 'path 25000' 'path 50000' run S D
   twice 'windows 25000' 'windows 50000' run S D
   twice 'ancestors 25000' 'ancestors 50000' run S D
-  twice 'levels 100 999' 'levels 200 999' run S D
-  twice 'levels 100 999' 'levels 100 1999' run S D
-  twice 'scopes 2500' 'scopes 5000' run S D
+  grows 'levels 100 999' 'levels 200 999' run S D
+  grows 'levels 100 999' 'levels 100 1999' run S D
+  grows 'scopes 2500' 'scopes 5000' run S D
   twice 'prefixes 10000 500000' 'prefixes 20000 1000000' run S D
-  twice 'prefixed 10000 5000' 'prefixed 20000 10000' run S D
+  grows 'prefixed 10000 5000' 'prefixed 20000 10000' run S D
   twice 'long_calls 250000 1000' 'long_calls 500000 2000' run S D
   twice 'schema_prefixes 10000 500000' 'schema_prefixes 20000 1000000' valid I D
   twice 'names 500000' 'names 1000000' valid I D
   twice 'stars 250 990' 'stars 500 990' valid I D
   twice 'subsets 250 100000' 'subsets 250 200000' valid I D
   twice 'references 500000' 'references 1000000' valid I D
-  twice 'declarations 5000 10000' 'declarations 10000 20000' valid I D
-  twice 'long_namespace 10000 125000' 'long_namespace 20000 250000' valid I D
+  grows 'declarations 5000 10000' 'declarations 10000 20000' valid I D
+  grows 'long_namespace 10000 125000' 'long_namespace 20000 250000' valid I D
   twice 'attributes 3500000' 'attributes 7000000' valid I D
   twice 'tags 96000' 'tags 192000' valid I D
-  twice 'chains 250' 'chains 500' valid --stream 65536 I D
-  twice 'others 500' 'chains 500' valid --stream 65536 I D
-  twice 'unlike 20000' 'alike 20000' valid I D
+  grows 'chains 250' 'chains 500' valid --stream 65536 I D
+  grows 'others 500' 'chains 500' valid --stream 65536 I D
+  grows 'unlike 20000' 'alike 20000' valid I D
   for part in text white comment cdata instruction value name brackets characters spaces empty references sections comments; do
     twice "one $part 33554432" "one $part 67108864" valid I D
   done
