@@ -7,7 +7,7 @@ use Rattle.tc_top.proofs.TextsDecided.{text_validated}
 use Rattle.tc_top.proofs.valid.valid_document.Goals as goal
 
 pub schema_parts-requires : goal.schema_parts-requires
-schema_parts-requires c = record { schema = lawful_read _ _ _ c.requires.read.2; }
+schema_parts-requires c = record { schema = lawful_read _ _ _ c.requires.read.2 }
 
 pub returns-in-Ok : goal.returns-in-Ok
 returns-in-Ok c =
