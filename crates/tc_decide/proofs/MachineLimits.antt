@@ -28,7 +28,7 @@ use Rattle.tc_rules.specs.declared.rules.Rules.{Rules}
 use Rattle.tc_rules.proofs.Looking.{all_unfold}
 use Rattle.tc_decide.specs.Checking.{PassesTripleLimit, by_sheet, by_calls, by_entries}
 use Rattle.tc_close.specs.Triples.{IsTripleOf}
-use Rattle.tc_decide.specs.MachinesSeen.{IsLawful, IsReadOf, IsCauseBy, AreAutomata, PassesMachine, many_calls, many_entries, IsMachineFor}
+use Rattle.tc_decide.specs.MachinesSeen.{IsLawful, IsWellFormed, IsReadOf, IsCauseBy, AreAutomata, PassesMachine, many_calls, many_entries, IsMachineFor}
 use Rattle.tc_decide.specs.Limits.{IsWithinLimits, PassesLimit, passes_size, SheetPasses, IsWithinSheetLimits, AreFew, states_on}
 use Rattle.tc_decide.specs.declared.machine.LimitFault.{LimitFault}
 use Rattle.tc_decide.specs.declared.machine.LimitFault.TheVariants.{Passes, NoMemory}
@@ -129,24 +129,31 @@ ok_both (Ok m) both p q = both m p q
 ok_both (Err e) both p q = tt
 
 -- a lawful schema has a grammar
-pub some_grammar : (s : Schema) → IsLawful s → (x : Grammar) × IsReadOf x s
-some_grammar s (x, read, grammar, start) = (x, read)
+pub some_grammar : (s : Schema) → IsWellFormed s → (x : Grammar) × IsReadOf x s
+some_grammar s (x, read, grammar) = (x, read)
+
+pub well_formed : (s : Schema) → IsLawful s → IsWellFormed s
+well_formed s (x, read, grammar, start) = (x, read, grammar)
 
 -- a small one's is well-formed; one that is too large has no automaton, so that it need not be
 pub lawful : (x : Grammar) (s : Schema) → IsLawful s → IsReadOf x s → IsWithinCounts x → IsGrammar x × IsStart x.start
 lawful x (Small g) (y, other, grammar, start) read w = subst (λ (z : Grammar). IsGrammar z × IsStart z.start) (sym other.0 ∙ read.0) (grammar, start)
 lawful x (TooLarge kind number) h read w = absurd (too_large read w)
 
-pub automata : (i o : Grammar) (s : Sheet) (input_schema output_schema : Schema) → IsLawful input_schema → IsLawful output_schema → IsReadOf i input_schema → IsReadOf o output_schema
+pub grammar_lawful : (x : Grammar) (s : Schema) → IsWellFormed s → IsReadOf x s → IsWithinCounts x → IsGrammar x
+grammar_lawful x (Small g) (y, other, grammar) read w = subst IsGrammar (sym other.0 ∙ read.0) grammar
+grammar_lawful x (TooLarge kind number) h read w = absurd (too_large read w)
+
+pub automata : (i o : Grammar) (s : Sheet) (input_schema output_schema : Schema) → IsLawful input_schema → IsWellFormed output_schema → IsReadOf i input_schema → IsReadOf o output_schema
     → (contents states : Auto) (symbols : List Mention) → a.Stands input i contents → a.Stands output o states → IsWithinLimits i input MOST_INPUT_STATES → IsWithinLimits o output MOST_OUTPUT_STATES
     → symbols ≡ symbols_of i o s → AreFew symbols → AreAutomata i o s contents states symbols
 automata i o s input_schema output_schema p q read_in read_out contents states symbols stands_in stands_out within_in within_out same few =
     let first = lawful i input_schema p read_in within_in.counts in
-    let second = lawful o output_schema q read_out within_out.counts in
+    
     record {
       input_lawful = first.0;
       start = first.1;
-      output_lawful = second.0;
+      output_lawful = grammar_lawful o output_schema q read_out within_out.counts;
       input_stands = stands_in;
       output_stands = stands_out;
       input_within = within_in;

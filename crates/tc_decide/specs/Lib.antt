@@ -5,3 +5,5 @@ pub mod Checking
 pub mod MachinesSeen
 pub mod Deciding
 pub mod TextsSeen
+pub mod DeadSpots
+pub mod DeadSpotsSeen

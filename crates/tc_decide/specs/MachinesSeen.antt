@@ -32,6 +32,10 @@ IsReadOf x (Small read) = (grammar read ≡ x) × IsWithinCounts x
 IsReadOf x (TooLarge kind number) = PassesSize x kind number
 
 -- the schema is some well-formed grammar's
+abbrev pub IsWellFormed : Schema → Type 0
+IsWellFormed schema = (x : g.Grammar) × IsReadOf x schema × IsGrammar x
+
+-- one with a start as documents need it
 abbrev pub IsLawful : Schema → Type 0
 IsLawful schema = (x : g.Grammar) × IsReadOf x schema × IsGrammar x × IsStart x.start
 

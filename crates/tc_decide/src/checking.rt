@@ -117,7 +117,7 @@ fn decide<'b>(
 }
 
 /// A count of rows passes its limit.
-fn rows_failure(most: u32, fault: CloseFault) -> Failure
+pub(crate) fn rows_failure(most: u32, fault: CloseFault) -> Failure
     ensures { result ≡ of_close most fault }
 {
     match fault {

@@ -14,7 +14,7 @@ ghost use Rattle.tc_rows.specs.Triples.{Triple};
 ghost use Rattle.tc_rules.specs.Kept.{IsRulesOf, told};
 ghost use Rattle.tc_rules.specs.RulesView.{AreSymbolsWith};
 ghost use Rattle.tc_decide.specs.Checking.{PassesTripleLimit};
-ghost use Rattle.tc_decide.specs.MachinesSeen.{IsLawful, IsReadOf, IsCauseBy, AreAutomata, PassesMachine, IsMachineFor};
+ghost use Rattle.tc_decide.specs.MachinesSeen.{IsLawful, IsWellFormed, IsReadOf, IsCauseBy, AreAutomata, PassesMachine, IsMachineFor};
 ghost use Rattle.tc_decide.specs.Limits.{AreFew, IsWithinLimits, PassesLimit, SheetPasses};
 
 use std::alloc::Global;
@@ -64,7 +64,7 @@ pub fn machine_of<'b>(
     sheet: &Sheet<'b>,
 ) -> Result<Machine<'b>, LimitFault>
     requires input { IsLawful input.now }
-    requires output { IsLawful output.now }
+    requires output { IsWellFormed output.now }
     requires sheet { IsSheet (see.sheet sheet.now) }
     ensures ok { IfOk result (λ m. (i o : g.Grammar) → IsReadOf i input.now → IsReadOf o output.now
         → IsMachineFor i o (see.sheet sheet.now) m) }

@@ -18,7 +18,7 @@ use tc_model::Sheet;
 use tc_read::{Schema, read_sheet};
 
 /// The schema of a text.
-fn schema_of<'b>(arena: &'b Bump, which: Which, text: SchemaText<'_>) -> Result<Schema<'b>, Failure>
+pub(crate) fn schema_of<'b>(arena: &'b Bump, which: Which, text: SchemaText<'_>) -> Result<Schema<'b>, Failure>
     requires { IsShort text }
     ensures ok { IfOk result (IsSchemaOf text.entry) }
     ensures no { IfErr result (IsRefusalOf which (IsRefused text.entry)) }
@@ -30,7 +30,7 @@ fn schema_of<'b>(arena: &'b Bump, which: Which, text: SchemaText<'_>) -> Result<
 }
 
 /// The stylesheet of a text.
-fn sheet_of<'b>(arena: &'b Bump, text: &[u8]) -> Result<Sheet<'b>, Failure>
+pub(crate) fn sheet_of<'b>(arena: &'b Bump, text: &[u8]) -> Result<Sheet<'b>, Failure>
     requires { length text.now ≤ longest_text }
     ensures ok { IfOk result (λ s. IsSheetOf text.now (see.sheet s)) }
     ensures well_formed { IfOk result (λ s. IsSheet (see.sheet s)) }

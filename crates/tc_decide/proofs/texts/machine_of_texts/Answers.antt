@@ -1,3 +1,4 @@
+use Rattle.tc_decide.proofs.MachineLimits.{well_formed}
 use Rattle.tc_decide.proofs.SchemaTexts.{lawful_read}
 use Rattle.tc_decide.proofs.TextsRead.{by_input, by_output, by_sheet, machine_of_all, passed_by_all}
 use Rattle.tc_decide.proofs.texts.machine_of_texts.Goals as goal
@@ -21,7 +22,7 @@ pub machine_of-requires-clause-input : goal.machine_of-requires-clause-input
 machine_of-requires-clause-input c = lawful_read c.args.input _ c.in_ok-input_schema.ensures.ok
 
 pub machine_of-requires-clause-output : goal.machine_of-requires-clause-output
-machine_of-requires-clause-output c = lawful_read c.args.output _ c.in_ok-output_schema.ensures.ok
+machine_of-requires-clause-output c = well_formed _ (lawful_read c.args.output _ c.in_ok-output_schema.ensures.ok)
 
 pub returns-in_err-machine_of-clause-no : goal.returns-in_err-machine_of-clause-no
 returns-in_err-machine_of-clause-no c =
