@@ -6,3 +6,6 @@ pub mod Triples
 pub mod MachineLimits
 pub mod Deciding
 pub mod TextsRead
+pub mod Using
+pub mod Stages
+pub mod SpotsTold

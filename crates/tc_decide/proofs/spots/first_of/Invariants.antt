@@ -1,0 +1,13 @@
+use Rattle.std.proofs.Common.{◌≡◌, ◌++◌, List, map, drop}
+use Rattle.tc_dead.specs.Spots.{Spot}
+use Rattle.tc_dead.specs.Views.{seen}
+use Rattle.tc_decide.specs.DeadSpotsSeen.{StopsSpots}
+use Rattle.tc_decide.specs.MachinesSeen.{IsReadOf}
+use Rattle.tc_model.specs.Grammars.{Grammar}
+use Rattle.tc_model.specs.Views as see
+use Rattle.tc_decide.proofs.spots.first_of.Given as goal
+
+abbrev pub invariant-loop-spot : goal.invariant-loop-spot
+invariant-loop-spot l =
+    (i : Grammar) → IsReadOf i l.marking.input → (ps : List Spot) → StopsSpots i (see.sheet l.marking.sheet) ps l.failure
+    → (qs : List Spot) × (qs ++ map seen (drop l.spot-index l.later) ≡ ps ++ map seen l.later) × StopsSpots i (see.sheet l.marking.sheet) qs l.found
