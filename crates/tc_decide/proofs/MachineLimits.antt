@@ -149,7 +149,6 @@ pub automata : (i o : Grammar) (s : Sheet) (input_schema output_schema : Schema)
     → symbols ≡ symbols_of i o s → AreFew symbols → AreAutomata i o s contents states symbols
 automata i o s input_schema output_schema p q read_in read_out contents states symbols stands_in stands_out within_in within_out same few =
     let first = lawful i input_schema p read_in within_in.counts in
-    
     record {
       input_lawful = first.0;
       start = first.1;

@@ -3,13 +3,19 @@ use Rattle.std.proofs.Common.{◌≡◌, ◌⊎◌, inl, inr, ◌<◌, ◌≤◌
 use Rattle.std.proofs.lemmas.List.{drop_more, drop_all, get_or-map}
 use Rattle.std.proofs.lemmas.List.Elements.{All-push}
 use Rattle.tc_dead.specs.Instantiated.{IsDead}
+use Rattle.tc_dead.specs.Marked.{marked_at, plain_schema}
 use Rattle.tc_dead.specs.Spots.{Spot, spots_of}
+use Rattle.tc_dead.specs.Tells.{Tells}
 use Rattle.tc_dead.specs.Views.{seen}
 use Rattle.tc_dead.specs.declared.spots.Spot.{Spot as ArenaSpot}
 use Rattle.tc_decide.specs.DeadSpots.{Answer, TellsRefusalOfTwo, OnDead, IfUsed, Uses, IsLeastUse, HasLargeUses, TellsSpot, KeepsSpot, KeepSpots, PassSpots, TellsSpots}
-use Rattle.tc_decide.specs.DeadSpotsSeen.{IsMarkingOf, StopsTwo, IsTold, IsToldOf, StopsSpot, StopsSpots, IsFoundOfSpots, IsFoundOfTwo}
-use Rattle.tc_decide.specs.MachinesSeen.{IsReadOf}
-use Rattle.tc_decide.specs.Texts.{Spells}
+use Rattle.tc_decide.specs.DeadSpotsSeen.{IsMarkingOf, IsTelling, StopsTwo, IsTold, IsToldOf, StopsSpot, StopsSpots, IsFoundOfSpots, IsFoundOfTwo}
+use Rattle.tc_decide.specs.Checking.{PassesTripleLimit}
+use Rattle.tc_decide.specs.MachinesSeen.{IsReadOf, IsCauseBy}
+use Rattle.tc_decide.specs.Texts.{Spells, IsRefused, IsSchemaOf}
+use Rattle.tc_decide.specs.TextsSeen.{IsRefusalOf, of_limit}
+use Rattle.tc_decide.specs.declared.machine.LimitFault.{LimitFault}
+use Rattle.tc_decide.specs.declared.machine.LimitFault.TheVariants as limit
 use Rattle.tc_decide.specs.declared.failure.Failure.{Failure}
 use Rattle.tc_decide.specs.declared.failure.Failure.TheVariants.{Refused, Passes, NoMemory}
 use Rattle.tc_decide.specs.declared.failure.Kind.{Kind}
@@ -23,10 +29,14 @@ use Rattle.tc_decide.proofs.SchemaTexts.{one_schema, no_schema, read_of}
 use Rattle.tc_decide.proofs.Sheets.{no_sheet, one_sheet_of}
 use Rattle.tc_decide.proofs.Stages.{first_stop, not_all, same_stage}
 use Rattle.tc_model.specs.Grammars.{Grammar}
+use Rattle.tc_model.specs.Safety.{IsResultOf}
 use Rattle.tc_model.specs.Sheets.{Sheet}
 use Rattle.tc_model.specs.Trees.{Trees, none}
 use Rattle.tc_model.specs.Views as see
+use Rattle.tc_model.specs.WellFormed.{IsSheet}
+use Rattle.tc_read.specs.Refusals.{IsRefusedSheet}
 use Rattle.tc_read.specs.Sheets.{IsSheetOf}
+use Rattle.tc_read.specs.declared.schemas.Schema.{Schema}
 
 map_push : {X Y : Type 0} (f : X → Y) (xs : List X) (x : X) → map f (xs ++ x ∷ []) ≡ map f xs ++ f x ∷ []
 map_push f [] x = refl
@@ -179,3 +189,24 @@ module _ (input : SchemaText) (sheet : List ℕ) where
   stopped_texts (Refused which.Output reason at) h = absurd h
   stopped_texts (Refused which.Sheet reason at) h = record { refusal = h; found = λ i s a b. absurd (no_sheet reason (see.place at) h.1 b) }
   stopped_texts NoMemory h = record { refusal = tt; found = λ i s a b. tt }
+
+  pub refused_input : (e : Failure) → IsRefusalOf which.Input (IsRefused input) e → StopsTwo input sheet e
+  refused_input (Refused found reason at) (same, r) = subst (λ w. StopsTwo input sheet (Refused w reason at)) (sym same) r
+  refused_input (Passes kind number) r = absurd r
+  refused_input NoMemory r = tt
+
+  pub refused_sheet : (x : Schema) → IsSchemaOf input x → (e : Failure) → IsRefusalOf which.Sheet (IsRefusedSheet sheet) e → StopsTwo input sheet e
+  refused_sheet x one (Refused found reason at) (same, r) =
+      let (i, spells, read) = read_of (Spells input) x one in subst (λ w. StopsTwo input sheet (Refused w reason at)) (sym same) ((i, spells), r)
+  refused_sheet x one (Passes kind number) r = absurd r
+  refused_sheet x one NoMemory r = tt
+
+-- a limit that is passed before rows are tried
+pub stops_limit : (i : Grammar) (s : Sheet) (p : Spot) (e : LimitFault) → IsCauseBy (PassesTripleLimit i plain_schema (marked_at p s)) e → StopsSpot i s p (of_limit e)
+stops_limit i s p (limit.Passes kind number) h = (h, tt)
+stops_limit i s p limit.NoMemory h = tt
+
+-- the stylesheet that was made
+module _ (s m : Sheet) (p : Spot) (same : m ≡ marked_at p s) where
+  pub telling_by : IsSheet m → ((d out : Trees) → IsResultOf m d out → Tells p s d out) → IsTelling s p
+  telling_by is tells = record { sheet = subst IsSheet same is; tells = λ d out r. tells d out (subst (λ (z : Sheet). IsResultOf z d out) (sym same) r) }

@@ -1,17 +1,25 @@
 -- The documents that instantiate a spot are those that the stylesheet in which it is marked makes into what isn't plain.
-use Rattle.std.proofs.Common.{◌⊎◌, inl, inr, Result, Ok, Err, IfOk, IfErr}
+use Rattle.std.proofs.Common.{refl, ◌⊎◌, inl, inr, Result, Ok, Err, IfOk, IfErr}
+use Rattle.tc_close.specs.Decisions.{IsDecided, IsCloseCause}
+use Rattle.tc_close.specs.declared.decision.CloseFault.{CloseFault}
+use Rattle.tc_close.specs.declared.decision.CloseFault.TheVariants as close
+use Rattle.tc_close.specs.declared.decision.Counts.{Counts}
+use Rattle.tc_close.specs.declared.decision.Decision.TheVariants as decision
 use Rattle.tc_dead.specs.Instantiated.{IsInstantiated, IsDead}
 use Rattle.tc_dead.specs.Marked.{marked_at, plain_schema}
 use Rattle.tc_dead.specs.Spots.{Spot}
 use Rattle.tc_dead.specs.Tells.{Tells}
-use Rattle.tc_decide.specs.Checking.{IsCounter, IsLeastCounter, HasLargeCounters}
+use Rattle.tc_decide.specs.Checking.{IsWithinTripleLimits, IsCounter, IsLeastCounter, HasLargeCounters}
 use Rattle.tc_decide.specs.DeadSpots.{Uses, IsLeastUse, HasLargeUses}
 use Rattle.tc_decide.specs.DeadSpotsSeen.{IsTelling, IsToldByRows, IsToldOf, StopsSpot}
+use Rattle.tc_decide.specs.TextsSeen.{of_close}
 use Rattle.tc_decide.specs.declared.failure.Failure.{Failure}
 use Rattle.tc_decide.specs.declared.failure.Failure.TheVariants.{Refused, Passes, NoMemory}
 use Rattle.tc_decide.specs.declared.failure.Kind.TheVariants.{Texts, Rows, Nodes}
+use Rattle.tc_decide.specs.declared.limits.TheConstants.{MOST_ROWS}
 use Rattle.tc_decide.specs.declared.spots.Told.{Told}
 use Rattle.tc_decide.specs.declared.spots.Told.TheVariants.{Dead, Used, UsedTooLarge}
+use Rattle.tc_decide.proofs.Triples.{itself, few_rows, least_counter}
 use Rattle.tc_model.specs.Grammars.{Grammar}
 use Rattle.tc_model.specs.Safety.{IsSafe}
 use Rattle.tc_model.specs.Sheets.{Sheet}
@@ -19,6 +27,8 @@ use Rattle.tc_model.specs.Trees.{Trees, none}
 use Rattle.tc_model.specs.Validity.{IsValidOutput}
 use Rattle.tc_model.specs.Views as see
 use Rattle.tc_model.proofs.Total.{one_result}
+use Rattle.tc_rows.specs.Triples as t
+use Rattle.tc_rows.specs.Triples.{Triple, IsTriple}
 
 module _ (s : Sheet) (p : Spot) (d out : Trees) where
   instantiated : Tells p s d out → (IsValidOutput plain_schema out → ⊥) → IsInstantiated s d p
@@ -69,3 +79,21 @@ pub all_stopped : (Is : Grammar → Type 0) (s : Sheet) (p : Spot) (r : Result T
     → IfErr r (λ e. (i : Grammar) → Is i → StopsSpot i s p e)
 all_stopped Is s p (Ok told) h = tt
 all_stopped Is s p (Err e) h = λ i is. stopped_by i s p e (h i is)
+
+-- what is decided of a machine
+
+module _ (x : Triple) (is : IsTriple x) (w : IsWithinTripleLimits x.input x.output (t.sheet x)) where
+  pub rows_dead : (n : Counts) → IsDecided x MOST_ROWS (decision.Safe n) → IsToldByRows x.input x.output (t.sheet x) (Ok Dead)
+  rows_dead n h = ((w, few_rows x is h.keeps), h.safe)
+
+  pub rows_used : (document : _) → IsDecided x MOST_ROWS (decision.Unsafe document) → IsToldByRows x.input x.output (t.sheet x) (Ok (Used document))
+  rows_used document h = ((w, few_rows x is h.keeps), least_counter x is h)
+
+  pub rows_large : IsDecided x MOST_ROWS decision.TooManyNodes → IsToldByRows x.input x.output (t.sheet x) (Ok UsedTooLarge)
+  rows_large h = ((w, few_rows x is h.keeps), record { some = h.some; large = h.far })
+
+  pub rows_many : (fault : CloseFault) → IsCloseCause x MOST_ROWS fault → IsToldByRows x.input x.output (t.sheet x) (Err (of_close MOST_ROWS fault))
+  rows_many close.TooManyTrees h = (w, (x, itself x is, h), refl)
+  rows_many close.TooManyHedges h = (w, (x, itself x is, h), refl)
+  rows_many close.TooManyOutputs h = (w, (x, itself x is, h), refl)
+  rows_many close.NoMemory h = tt

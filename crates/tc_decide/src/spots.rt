@@ -55,6 +55,7 @@ pub struct SpotTold<'b> {
 }
 
 /// A schema, the plain one, and a stylesheet whose spots are asked for.
+#[derive(Clone, Copy)]
 struct Marking<'b> {
     input: Schema<'b>,
     plain: Schema<'b>,
@@ -171,7 +172,11 @@ fn told_of_all<'b>(
     for index in 0..spots.len() {
         let spot = spots[index];
         match told_of(arena, alloc, marking, spot) {
-            Ok(told) => found.push(SpotTold { spot, told })?,
+            Ok(told) => {
+                let Ok(()) = found.push(SpotTold { spot, told }) else {
+                    return Err(Failure::NoMemory);
+                };
+            }
             Err(failure) => {
                 return Err(first_of(arena, alloc, marking, &spots[index + 1..], failure));
             }

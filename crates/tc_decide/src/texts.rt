@@ -18,7 +18,11 @@ use tc_model::Sheet;
 use tc_read::{Schema, read_sheet};
 
 /// The schema of a text.
-pub(crate) fn schema_of<'b>(arena: &'b Bump, which: Which, text: SchemaText<'_>) -> Result<Schema<'b>, Failure>
+pub(crate) fn schema_of<'b>(
+    arena: &'b Bump,
+    which: Which,
+    text: SchemaText<'_>,
+) -> Result<Schema<'b>, Failure>
     requires { IsShort text }
     ensures ok { IfOk result (IsSchemaOf text.entry) }
     ensures no { IfErr result (IsRefusalOf which (IsRefused text.entry)) }
