@@ -1,7 +1,7 @@
 -- What is told of all spots of a stylesheet, one after the other.
-use Rattle.std.proofs.Common.{◌≡◌, ◌⊎◌, inl, inr, ◌<◌, ◌≤◌, ◌+◌, ◌∙◌, refl, sym, ap, subst, ℕ, zero, suc, List, [], ◌∷◌, ◌++◌, append_assoc, append-nil, length, map, drop, get_or, All, Contains, Result, Ok, Err, IfOk, Bor, arith}
-use Rattle.std.proofs.lemmas.List.{drop_more, drop_all, get_or-map}
-use Rattle.std.proofs.lemmas.List.Elements.{All-push}
+use Rattle.std.proofs.Common.{◌≡◌, ◌⊎◌, inl, inr, ◌<◌, ◌≤◌, ◌+◌, ◌-◌, ◌∙◌, refl, sym, ap, subst, ℕ, zero, suc, List, [], ◌∷◌, ◌++◌, append_assoc, append-nil, length, map, take, drop, get_or, All, Contains, Result, Ok, Err, IfOk, Bor, arith}
+use Rattle.std.proofs.lemmas.List.{drop_more, drop_all, take_all, length-drop, get_or-map}
+use Rattle.std.proofs.lemmas.List.Elements.{All-push, All-take, All-drop}
 use Rattle.tc_dead.specs.Instantiated.{IsDead}
 use Rattle.tc_dead.specs.Marked.{marked_at, plain_schema}
 use Rattle.tc_dead.specs.Spots.{Spot, spots_of}
@@ -52,7 +52,7 @@ spots_told ts = map (λ t. seen t.spot) ts
 
 -- what is so of each that is told of, by its spot
 each_spot : (P : Spot → Type 0) (ts : List SpotTold) → All (λ t. P (seen t.spot)) ts → (p : Spot) → Contains (spots_told ts) p → P p
-each_spot P [] all p (k, l, e) = omega (arith, l)
+each_spot P [] all p (k, l, e) = absurd (omega (arith, l))
 each_spot P (t ∷ ts) all p (zero, l, e) = subst P e (all 0 t (omega arith))
 each_spot P (t ∷ ts) all p (suc k, l, e) = each_spot P ts (λ j d h. all (suc j) d (omega (arith, h))) p (k, omega (arith, l), e)
 
@@ -61,6 +61,21 @@ pub spot_at : (spots : List ArenaSpot) (all : List Spot) (k : ℕ) (d : ArenaSpo
 spot_at spots all k d e h =
     subst (λ (z : List Spot). Contains z (seen (get_or spots k d))) e
     (k, omega (arith, h, length_map seen spots), get_or-map seen spots k d (seen (get_or spots k d)) h)
+
+pub spots_later : (spots : List ArenaSpot) (all : List Spot) (n k : ℕ) → map seen spots ≡ all → All (λ p. Contains all (seen p)) (take n (drop k spots))
+spots_later spots all n k e =
+    All-take (λ (p : ArenaSpot). Contains all (seen p)) n (drop k spots) (All-drop (λ (p : ArenaSpot). Contains all (seen p)) k spots (λ j d h. spot_at spots all j d e h))
+
+pub rest_is : (spots : List ArenaSpot) (k : ℕ) → take (length spots - k) (drop k spots) ≡ drop k spots
+rest_is spots k = take_all (length spots - k) (drop k spots) (omega (arith, length-drop k spots))
+
+-- those that are looked at, and those that come later
+pub later_more : (k : ℕ) (later : List ArenaSpot) (d : ArenaSpot) (qs whole : List Spot) → k < length later → qs ++ map seen (drop k later) ≡ whole
+    → (qs ++ seen (get_or later k d) ∷ []) ++ map seen (drop (k + 1) later) ≡ whole
+later_more k later d qs whole h e = append_assoc qs (seen (get_or later k d) ∷ []) (map seen (drop (k + 1) later)) ∙ (ap (λ z. qs ++ map seen z) (sym (drop_more later k d h)) ∙ e)
+
+pub later_all : (k : ℕ) (later : List ArenaSpot) (qs whole : List Spot) → length later ≤ k → qs ++ map seen (drop k later) ≡ whole → qs ≡ whole
+later_all k later qs whole h e = sym (append-nil qs) ∙ (ap (λ z. qs ++ map seen z) (sym (drop_all k later h)) ∙ e)
 
 module _ (k : ℕ) (spots : List ArenaSpot) (old new : List SpotTold) (t : SpotTold) (d : ArenaSpot) where
   -- one more is told of
@@ -81,21 +96,25 @@ module _ (i : Grammar) (s : Sheet) where
   abbrev pub AreTold : List SpotTold → Type 0
   AreTold ts = All (λ t. IsToldOf i s (seen t.spot) t.told) ts
 
-  pub told_push : (old new : List SpotTold) (t : SpotTold) (p : ArenaSpot) (told : Told) → new ≡ old ++ t ∷ [] → AreTold old → IsToldOf i s (seen t.spot) t.told → AreTold new
-  told_push old new t p told put all this = subst AreTold (sym put) (All-push (λ (u : SpotTold). IsToldOf i s (seen u.spot) u.told) old t all this)
+  pub told_push : (old new : List SpotTold) (t : SpotTold) → new ≡ old ++ t ∷ [] → AreTold old → IsToldOf i s (seen t.spot) t.told → AreTold new
+  told_push old new t put all this = subst AreTold (sym put) (All-push (λ (u : SpotTold). IsToldOf i s (seen u.spot) u.told) old t all this)
+
+  pub told_end : (k : ℕ) (spots : List ArenaSpot) (ts put : List SpotTold) → length spots ≤ k → map seen spots ≡ spots_of s → spots_told ts ++ map seen (drop k spots) ≡ map seen spots → AreTold ts → put ≡ ts
+      → (spots_told put ≡ spots_of s) × AreTold put
+  told_end k spots ts put h all so_far told is = (ap spots_told is ∙ (told_all k spots ts h so_far ∙ all), subst AreTold (sym is) told)
 
   -- they keep all limits
   pub all_kept : (ts : List SpotTold) → AreTold ts → KeepSpots i s (spots_told ts)
   all_kept ts all = each_spot (KeepsSpot i s) ts (λ k d h. (all k d h).keeps)
 
   -- the next one passes one, and then those after it are looked at
-  pub stopped_at : (k : ℕ) (spots : List ArenaSpot) (ts : List SpotTold) (d : ArenaSpot) (e last : Failure) → k < length spots → map seen spots ≡ spots_of s
+  pub stopped_at : (k : ℕ) (spots rest : List ArenaSpot) (ts : List SpotTold) (d : ArenaSpot) (e last : Failure) → k < length spots → rest ≡ drop (k + 1) spots → map seen spots ≡ spots_of s
       → spots_told ts ++ map seen (drop k spots) ≡ map seen spots → AreTold ts → StopsSpot i s (seen (get_or spots k d)) e
-      → ((ps : List Spot) → StopsSpots i s ps e → StopsSpots i s (ps ++ map seen (drop (k + 1) spots)) last) → StopsSpots i s (spots_of s) last
-  stopped_at k spots ts d e last h all so_far told stops later =
+      → ((ps : List Spot) → StopsSpots i s ps e → StopsSpots i s (ps ++ map seen rest) last) → StopsSpots i s (spots_of s) last
+  stopped_at k spots rest ts d e last h is all so_far told stops later =
       let p : Spot = seen (get_or spots k d) in
-      let same : (spots_told ts ++ p ∷ []) ++ map seen (drop (k + 1) spots) ≡ spots_of s =
-      append_assoc (spots_told ts) (p ∷ []) (map seen (drop (k + 1) spots)) ∙ (ap (λ z. spots_told ts ++ map seen z) (sym (drop_more spots k d h)) ∙ (so_far ∙ all)) in
+      let same : (spots_told ts ++ p ∷ []) ++ map seen rest ≡ spots_of s =
+      ap (λ z. (spots_told ts ++ p ∷ []) ++ map seen z) is ∙ (later_more k spots d (spots_told ts) (map seen spots) h so_far ∙ all) in
       subst (λ (z : List Spot). StopsSpots i s z last) same (later (spots_told ts ++ p ∷ []) (first_stop i s (spots_told ts) p e (all_kept ts told) stops))
 
   -- what is told of each is what it says

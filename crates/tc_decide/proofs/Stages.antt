@@ -75,22 +75,22 @@ module _ (i : Grammar) (s : Sheet) (p : Spot) where
   reaches_all w n = record { sheet = λ _. (calls_kept w).0; calls = λ _. calls_kept w; all = λ _. w }
 
   reaches_sorted : {kind : Limit} {number : ℕ} → Sorted i s p kind number → (n : ℕ) → n ≤ stage (Texts kind) → Reaches n
-  reaches_sorted (at_first e) n h = record { sheet = λ l. omega (arith, e, h, l); calls = λ l. omega (arith, e, h, l); all = λ l. omega (arith, e, h, l) }
-  reaches_sorted (at_calls k x) n h = record { sheet = λ _. k; calls = λ l. omega (arith, h, l); all = λ l. omega (arith, h, l) }
-  reaches_sorted (at_entries k x) n h = record { sheet = λ _. k.0; calls = λ _. k; all = λ l. omega (arith, h, l) }
+  reaches_sorted (at_first e) n h = record { sheet = λ l. absurd (omega (arith, e, h, l)); calls = λ l. absurd (omega (arith, e, h, l)); all = λ l. absurd (omega (arith, e, h, l)) }
+  reaches_sorted (at_calls k x) n h = record { sheet = λ _. k; calls = λ l. absurd (omega (arith, h, l)); all = λ l. absurd (omega (arith, h, l)) }
+  reaches_sorted (at_entries k x) n h = record { sheet = λ _. k.0; calls = λ _. k; all = λ l. absurd (omega (arith, h, l)) }
 
   pub reaches : (e : Failure) → StopsSpot i s p e → (n : ℕ) → n ≤ stage_of e → Reaches n
   reaches (Passes (Texts kind) number) x n h = reaches_sorted (sorted x.0) n h
   reaches (Passes (Rows count) number) x n h = reaches_all x.0.0 n
   reaches (Passes Nodes number) x n h = absurd x.1
   reaches (Refused which reason at) x n h = absurd x
-  reaches NoMemory x n h = record { sheet = λ l. omega (arith, h, l); calls = λ l. omega (arith, h, l); all = λ l. omega (arith, h, l) }
+  reaches NoMemory x n h = record { sheet = λ l. absurd (omega (arith, h, l)); calls = λ l. absurd (omega (arith, h, l)); all = λ l. absurd (omega (arith, h, l)) }
 
 -- one more spot
 
 one_of : (p q : Spot) → Contains (p ∷ []) q → p ≡ q
 one_of p q (zero, l, e) = e
-one_of p q (suc k, l, e) = omega (arith, l)
+one_of p q (suc k, l, e) = absurd (omega (arith, l))
 
 last_of : (ps : List Spot) (p : Spot) → Contains (ps ++ p ∷ []) p
 last_of ps p = Contains-append_right ps (p ∷ []) p (0, omega arith, refl)
@@ -105,9 +105,9 @@ extend P ps p each this q c = by (Contains-append_cases ps (p ∷ []) q c)
 module _ (i : Grammar) (s : Sheet) (ps : List Spot) where
   -- what is passed by one of several, the limits before it are kept by all
   pub prior : {kind : Kind} {number : ℕ} → PassSpots i s ps kind number → OfEach ps (λ q. Reaches i s q (stage kind))
-  prior (by_text p e c x) q d = record { sheet = λ l. omega (arith, e, l); calls = λ l. omega (arith, e, l); all = λ l. omega (arith, e, l) }
-  prior (by_calls p each c x) q d = record { sheet = λ _. each q d; calls = λ l. omega (arith, l); all = λ l. omega (arith, l) }
-  prior (by_entries p each c x) q d = record { sheet = λ _. (each q d).0; calls = λ _. each q d; all = λ l. omega (arith, l) }
+  prior (by_text p e c x) q d = record { sheet = λ l. absurd (omega (arith, e, l)); calls = λ l. absurd (omega (arith, e, l)); all = λ l. absurd (omega (arith, e, l)) }
+  prior (by_calls p each c x) q d = record { sheet = λ _. each q d; calls = λ l. absurd (omega (arith, l)); all = λ l. absurd (omega (arith, l)) }
+  prior (by_entries p each c x) q d = record { sheet = λ _. (each q d).0; calls = λ _. each q d; all = λ l. absurd (omega (arith, l)) }
   prior (by_rows p earlier later each e kept x) q d = reaches_all i s q (each q d) 3
 
   no_later : {kind : Kind} {number : ℕ} → PassSpots i s ps kind number → 4 ≤ stage kind → ⊥
@@ -130,9 +130,9 @@ module _ (i : Grammar) (s : Sheet) (ps : List Spot) where
     where
       by : {kind : Kind} {number : ℕ} → PassSpots i s ps kind number → stage kind ≡ 0 → PassSpots i s (ps ++ qs) kind number
       by (by_text q e c y) h = by_text q e (Contains-append_left ps qs q c) y
-      by (by_calls q each c y) h = omega (arith, h)
-      by (by_entries q each c y) h = omega (arith, h)
-      by (by_rows q earlier later each e kept y) h = omega (arith, h)
+      by (by_calls q each c y) h = absurd (omega (arith, h))
+      by (by_entries q each c y) h = absurd (omega (arith, h))
+      by (by_rows q earlier later each e kept y) h = absurd (omega (arith, h))
   grow_first (Refused which reason at) qs zero_is x = absurd x
   grow_first NoMemory qs zero_is x = tt
 
@@ -161,7 +161,12 @@ module _ (i : Grammar) (s : Sheet) (ps : List Spot) where
     grow_better (Passes kind number) (Refused which reason at) x y h = absurd y
     grow_better (Passes kind number) NoMemory x y h = tt
     grow_better (Refused which reason at) here x y h = absurd x
-    grow_better NoMemory here x y h = omega (arith, h)
+    grow_better NoMemory here x y h = absurd (omega (arith, h))
+
+    pub grow_either : (f here r : Failure) → StopsSpots i s ps f → StopsSpot i s p here → ((r ≡ here) × (stage_of here < stage_of f)) ⊎ ((r ≡ f) × (stage_of f ≤ stage_of here))
+        → StopsSpots i s (ps ++ p ∷ []) r
+    grow_either f here r x y (inl h) = subst (StopsSpots i s (ps ++ p ∷ [])) (sym h.0) (grow_better f here x y h.1)
+    grow_either f here r x y (inr h) = subst (StopsSpots i s (ps ++ p ∷ [])) (sym h.0) (grow_worse f here x y h.1)
 
     -- the first that is passed
     stop_text : {limit : Limit} {n : ℕ} → KeepSpots i s ps → PassesTripleLimit i plain_schema (marked_at p s) limit n → Sorted i s p limit n → PassSpots i s (ps ++ p ∷ []) (Texts limit) n

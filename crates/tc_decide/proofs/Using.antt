@@ -36,8 +36,8 @@ module _ (s : Sheet) (p : Spot) (d out : Trees) where
   instantiated (inr x) bad = x.0
 
   not_plain : Tells p s d out → IsInstantiated s d p → IsValidOutput plain_schema out → ⊥
-  not_plain (inl x) yes good = x.1 yes
-  not_plain (inr x) yes good = x.1 good
+  not_plain (inl x) reached good = x.1 reached
+  not_plain (inr x) reached good = x.1 good
 
 module _ (i : Grammar) (s : Sheet) (p : Spot) (telling : IsTelling s p) where
   pub uses_of : (d : Trees) → IsCounter i plain_schema (marked_at p s) d → Uses i s p d
@@ -49,7 +49,7 @@ module _ (i : Grammar) (s : Sheet) (p : Spot) (telling : IsTelling s p) where
       (only.0, (x.0, only.1, not_plain s p d only.0 (telling.tells d only.0 only.1) x.1))
 
   pub dead_of : IsSafe i plain_schema (marked_at p s) → IsDead i s p
-  dead_of safe d valid yes = let good = safe d valid in not_plain s p d good.0 (telling.tells d good.0 good.1) yes good.2
+  dead_of safe d valid reached = let good = safe d valid in not_plain s p d good.0 (telling.tells d good.0 good.1) reached good.2
 
   pub least_of : (d : Trees) → IsLeastCounter i plain_schema (marked_at p s) d → IsLeastUse i s p d
   least_of d x = record { uses = uses_of d x.counter; plain = x.plain; few = x.few; least = λ other y. x.least other (counter_of other y) }

@@ -26,7 +26,7 @@ use Rattle.tc_decide.specs.declared.spots.Told.{Told}
 use Rattle.tc_decide.specs.declared.spots.Told.TheVariants.{Dead, Used, UsedTooLarge}
 use Rattle.tc_model.specs.Grammars.{Grammar}
 use Rattle.tc_model.specs.Sheets.{Sheet}
-use Rattle.tc_model.specs.States.{input, output}
+use Rattle.tc_model.specs.States as side
 use Rattle.tc_model.specs.Symbols.{symbols_of}
 use Rattle.tc_model.specs.Trees.{Trees, none, node_count}
 use Rattle.tc_model.specs.Validity.{IsValid}
@@ -132,8 +132,8 @@ module _ (i : Grammar) (s : Sheet) (p : Spot) where
 
   -- none of the limits is passed that are tried before calls: of the schema, of the plain one, and of the stylesheet in which the spot is marked
   pub record KeepsSheetLimits : Type 0 where
-    pub input : IsWithinLimits i input MOST_INPUT_STATES
-    pub output : IsWithinLimits plain_schema output MOST_OUTPUT_STATES
+    pub input : IsWithinLimits i side.input MOST_INPUT_STATES
+    pub output : IsWithinLimits plain_schema side.output MOST_OUTPUT_STATES
     pub sheet : IsWithinSheetLimits (symbols_of i plain_schema (marked_at p s)) (marked_at p s)
 
   -- and calls neither

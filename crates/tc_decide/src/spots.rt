@@ -1,5 +1,5 @@
 // Which rules, named bodies and branches of a stylesheet no valid document instantiates.
-ghost use Rattle.std.specs.Prelude.{◌≡◌, ◌≤◌, ◌⊎◌, ◌++◌, ◌∷◌, [], All, Contains, Err, IfOk, IfErr, List, OnOk, length, map};
+ghost use Rattle.std.specs.Prelude.{◌≡◌, ◌<◌, ◌≤◌, ◌⊎◌, ◌++◌, ◌∷◌, [], All, Contains, Err, IfOk, IfErr, List, OnOk, length, map};
 ghost use Rattle.tc_base.specs.Reading.{longest_text};
 ghost use Rattle.tc_beh.specs.Machines.{IsMachine, IsMachineOf};
 ghost use Rattle.tc_dead.specs.Instantiated.{IsDead};
@@ -8,7 +8,7 @@ ghost use Rattle.tc_dead.specs.Spots as s;
 ghost use Rattle.tc_dead.specs.Spots.{spots_of};
 ghost use Rattle.tc_dead.specs.Views.{seen};
 ghost use Rattle.tc_decide.specs.Checking.{IsWithinTripleLimits};
-ghost use Rattle.tc_decide.specs.DeadSpots.{IfUsed, OnDead, TellsRefusalOfTwo, TellsSpots, Uses};
+ghost use Rattle.tc_decide.specs.DeadSpots.{IfUsed, IsWithinSpotLimits, OnDead, TellsRefusalOfTwo, TellsSpots, Uses};
 ghost use Rattle.tc_decide.specs.DeadSpotsSeen.{IsFoundOfSpots, IsFoundOfTwo, IsMarking, IsMarkingOf, IsTelling, IsToldByRows, IsToldOf, StopsSpot, StopsSpots, StopsTwo, stage_of};
 ghost use Rattle.tc_decide.specs.MachinesSeen.{IsMachineFor, IsReadOf};
 ghost use Rattle.tc_decide.specs.Texts.{IsShort, Spells};
@@ -223,16 +223,40 @@ fn earlier_of<'b>(
         → StopsSpots i (see.sheet marking.now.sheet) ps found
         → StopsSpots i (see.sheet marking.now.sheet) (ps ++ seen spot ∷ []) result }
 {
-    match machine_of_spot(arena, alloc, marking, spot) {
-        Ok(_) => found,
-        Err(here) => {
-            if stage(here) < stage(found) {
-                here
-            } else {
-                found
-            }
-        }
+    match try_machine(arena, alloc, marking, spot) {
+        Ok(()) => found,
+        Err(here) => first_tried(here, found),
     }
+}
+
+/// Whether a spot passes a limit that is tried before rows are.
+fn try_machine<'b>(
+    arena: &'b Bump,
+    alloc: Global,
+    marking: &Marking<'b>,
+    spot: Spot,
+) -> Result<(), Failure>
+    requires marking { IsMarking marking.now }
+    requires spot { Contains (spots_of (see.sheet marking.now.sheet)) (seen spot) }
+    ensures within { OnOk result ((i : Grammar) → IsReadOf i marking.now.input
+        → IsWithinSpotLimits i (see.sheet marking.now.sheet) (seen spot)) }
+    ensures err { IfErr result (λ e. (i : Grammar) → IsReadOf i marking.now.input
+        → StopsSpot i (see.sheet marking.now.sheet) (seen spot) e) }
+{
+    let machine = machine_of_spot(arena, alloc, marking, spot)?;
+    drop(machine);
+    Ok(())
+}
+
+/// Of two failures the one that is tried first.
+fn first_tried(here: Failure, found: Failure) -> Failure
+    ensures { ((result ≡ here) × (stage_of here < stage_of found))
+        ⊎ ((result ≡ found) × (stage_of found ≤ stage_of here)) }
+{
+    if stage(here) < stage(found) {
+        return here;
+    }
+    found
 }
 
 /// In which order limits are tried.

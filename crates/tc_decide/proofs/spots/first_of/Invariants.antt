@@ -9,5 +9,5 @@ use Rattle.tc_decide.proofs.spots.first_of.Given as goal
 
 abbrev pub invariant-loop-spot : goal.invariant-loop-spot
 invariant-loop-spot l =
-    (i : Grammar) → IsReadOf i l.marking.input → (ps : List Spot) → StopsSpots i (see.sheet l.marking.sheet) ps l.failure
+    (i : Grammar) → IsReadOf i l.marking.input → (ps : List Spot) → StopsSpots i (see.sheet l.marking.sheet) ps l.fn.failure
     → (qs : List Spot) × (qs ++ map seen (drop l.spot-index l.later) ≡ ps ++ map seen l.later) × StopsSpots i (see.sheet l.marking.sheet) qs l.found

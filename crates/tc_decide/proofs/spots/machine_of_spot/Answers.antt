@@ -22,7 +22,7 @@ machine_of-requires-clause-sheet c = c.in_ok-sheet.ensures.made.1
 pub returns-in_err-machine_of-clause-err : goal.returns-in_err-machine_of-clause-err
 returns-in_err-machine_of-clause-err c =
     err_is c.from_residual-in_err-machine_of.result _ _ c.from_residual-in_err-machine_of.ensures.1 (λ i read.
-    stops_limit i (see.sheet c.args.marking.now.sheet) (seen c.args.spot) _ (subst (λ (z : Sheet). IsCauseBy (PassesTripleLimit i plain_schema z) _) c.in_ok-sheet.ensures.made.0
+    stops_limit i (see.sheet c.args.marking.now.sheet) (seen c.args.spot) c.in_err-machine_of.field-0.0 (subst (λ (z : Sheet). IsCauseBy (PassesTripleLimit i plain_schema z) c.in_err-machine_of.field-0.0) c.in_ok-sheet.ensures.made.0
     (c.in_err-machine_of.ensures.err i plain_schema read c.requires.marking.plain)))
 
 pub returns-clause-tells : goal.returns-clause-tells
@@ -31,4 +31,4 @@ returns-clause-tells c =
 
 pub returns-clause-ok : goal.returns-clause-ok
 returns-clause-ok c = λ i read.
-    subst (λ (z : Sheet). IsMachineFor i plain_schema z _) c.in_ok-sheet.ensures.made.0 (c.in_ok-machine_of.ensures.ok i plain_schema read c.requires.marking.plain)
+    subst (λ (z : Sheet). IsMachineFor i plain_schema z c.in_ok-machine_of.field-0) c.in_ok-sheet.ensures.made.0 (c.in_ok-machine_of.ensures.ok i plain_schema read c.requires.marking.plain)

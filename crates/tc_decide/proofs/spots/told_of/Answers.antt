@@ -18,7 +18,7 @@ pub told_by_rows-requires : goal.told_by_rows-requires
 told_by_rows-requires c =
     let (i, read) = some_grammar _ (well_formed _ c.requires.marking.input) in
     let made = c.in_ok-machine.ensures.ok i read in
-    (made.triple, made.machine)
+    record { machine = (made.triple, made.machine) }
 
 pub returns-clause-ok : goal.returns-clause-ok
 returns-clause-ok c =
