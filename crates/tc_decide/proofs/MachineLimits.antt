@@ -129,8 +129,11 @@ ok_both (Ok m) both p q = both m p q
 ok_both (Err e) both p q = tt
 
 -- a lawful schema has a grammar
-pub some_grammar : (s : Schema) → IsWellFormed s → (x : Grammar) × IsReadOf x s
-some_grammar s (x, read, grammar) = (x, read)
+pub some_grammar : (s : Schema) → IsLawful s → (x : Grammar) × IsReadOf x s
+some_grammar s (x, read, grammar, start) = (x, read)
+
+pub well_formed_grammar : (s : Schema) → IsWellFormed s → (x : Grammar) × IsReadOf x s
+well_formed_grammar s (x, read, grammar) = (x, read)
 
 pub well_formed : (s : Schema) → IsLawful s → IsWellFormed s
 well_formed s (x, read, grammar, start) = (x, read, grammar)

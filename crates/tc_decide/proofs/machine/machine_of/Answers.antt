@@ -2,7 +2,7 @@ use Rattle.std.proofs.lemmas.Result.{IfOk-weaker, IfErr-weaker}
 use Rattle.tc_model.specs.Views as see
 use Rattle.tc_read.proofs.Exits.{err_is}
 use Rattle.tc_decide.specs.Checking.{by_input, by_output}
-use Rattle.tc_decide.proofs.MachineLimits.{cause_on, automata, some_grammar, well_formed}
+use Rattle.tc_decide.proofs.MachineLimits.{cause_on, automata, some_grammar, well_formed_grammar}
 use Rattle.tc_decide.proofs.machine.machine_of.Goals as goal
 
 pub returns-in_err-contents-clause-err : goal.returns-in_err-contents-clause-err
@@ -21,8 +21,8 @@ returns-in_err-alphabet-clause-err c =
 
 pub machine_over-requires-clause-automata : goal.machine_over-requires-clause-automata
 machine_over-requires-clause-automata c =
-    let (i, read_in) = some_grammar _ (well_formed _ c.requires.input) in
-    let (o, read_out) = some_grammar _ c.requires.output in (
+    let (i, read_in) = some_grammar _ c.requires.input in
+    let (o, read_out) = well_formed_grammar _ c.requires.output in (
       i,
       o,
       automata i o (see.sheet c.args.sheet.now) c.args.input.now c.args.output.now c.requires.input c.requires.output read_in read_out _ _ _ (c.in_ok-contents.ensures.stands i read_in)

@@ -3,7 +3,7 @@ use Rattle.tc_dead.specs.Views.{seen}
 use Rattle.tc_decide.specs.Checking.{IsWithinTripleLimits}
 use Rattle.tc_decide.specs.DeadSpotsSeen.{IsToldByRows}
 use Rattle.tc_decide.specs.MachinesSeen.{IsReadOf}
-use Rattle.tc_decide.proofs.MachineLimits.{some_grammar, well_formed}
+use Rattle.tc_decide.proofs.MachineLimits.{some_grammar}
 use Rattle.tc_decide.proofs.Triples.{of_triple, to_triple}
 use Rattle.tc_decide.proofs.Using.{all_told, all_stopped}
 use Rattle.tc_decide.proofs.spots.told_of.Goals as goal
@@ -16,7 +16,7 @@ returns-in_err-machine-clause-err c = err_is c.from_residual.result _ _ c.from_r
 
 pub told_by_rows-requires : goal.told_by_rows-requires
 told_by_rows-requires c =
-    let (i, read) = some_grammar _ (well_formed _ c.requires.marking.input) in
+    let (i, read) = some_grammar _ c.requires.marking.input in
     let made = c.in_ok-machine.ensures.ok i read in
     record { machine = (made.triple, made.machine) }
 
