@@ -65,10 +65,11 @@ def numbers_of(text):
 
 
 def printed_limits():
-    """The pairs of a limit's word and what the code gives as its number: a constant, or `most` for that of `--limit`."""
+    """The pairs of a limit's word and what the code gives as its number: a constant, or `most` for that of `--limit`; the
+    `_` of a pattern is none."""
     found = re.findall(r'over\(alloc, "(\w+)", (\w+)', ANSWERS)
     for text in code().values():
-        found += [(kind.lower(), number) for kind, number in re.findall(r"(?:Limit|RowCount)::(\w+)\)?,\s+(\w+)\)", text)]
+        found += [(kind.lower(), number) for kind, number in re.findall(r"(?:Limit|RowCount)::(\w+)\)?,\s+([A-Za-z]\w*)\)", text)]
     return sorted(set(found))
 
 
