@@ -14,8 +14,8 @@ use Rattle.tc_model.specs.XmlTextContent as c
 use Rattle.tc_model.specs.XmlTextRefusals.{Cause, unsupported, too_deep, ContentRefuses, past_item, ElementRefuses, depth, tag, inside, DocumentRefuses, subset}
 use Rattle.tc_model.specs.XmlTextRefusals as f
 use Rattle.tc_model.proofs.NormalForm.{dropped_empty}
-use Rattle.tc_stream.specs.XmlTextTags.{WrittenElement, TagFormAt, EndTagAt, WholeTagAt, ComesTo, to_root, into_element, names_length, open_names, tag_length}
-use Rattle.tc_stream.specs.XmlTextTags as t
+use Rattle.tc_tags.specs.XmlTextTags.{WrittenElement, TagFormAt, EndTagAt, WholeTagAt, ComesTo, to_root, into_element, names_length, open_names, tag_length}
+use Rattle.tc_tags.specs.XmlTextTags as t
 use Rattle.tc_stream.specs.XmlTextMeasures.{Measure, longest_tag, most_names, IsLongTag, PassesAt, long_tag, many_names}
 use Rattle.tc_stream.specs.XmlTextMeasures as m
 use Rattle.tc_stream.specs.Outcomes.{Outcome, document, refused, passed}
@@ -25,7 +25,7 @@ use Rattle.tc_stream.specs.From.{FromFront, declaration, prolog, root}
 use Rattle.tc_stream.specs.From as from
 use Rattle.tc_stream.proofs.LengthLaws.{comes_within, form_within, end_tag_within, item_within, content_within}
 use Rattle.tc_stream.proofs.LengthLaws.{at_most_or_more}
-use Rattle.tc_stream.proofs.TagLaws.{EndsAt, open_end, empty_end, ends_at, ends_shorter, form_of}
+use Rattle.tc_tags.proofs.TagLaws.{EndsAt, open_end, empty_end, ends_at, ends_shorter, form_of}
 use Rattle.tc_stream.proofs.LongLaws.{long_form, long_end_tag}
 use Rattle.tc_stream.proofs.OneOutcome.{opened}
 use Rattle.tc_stream.proofs.ItemLaws.{run_after, level_after, grown, grown_after, written_text, names_more, used_open, deeper, Behind, behind_content}

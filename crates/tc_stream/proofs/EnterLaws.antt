@@ -12,29 +12,29 @@ use Rattle.tc_model.specs.XmlTextScopes.{WrittenAttribute, TagMeans, ElementName
 use Rattle.tc_model.proofs.XmlTextChars.{chars_utf8, name_chars, white_chars, after_ascii, equals_chars}
 use Rattle.tc_model.proofs.XmlTextLawful.{quoted_chars, qname_chars, qname_parts}
 use Rattle.tc_model.proofs.XmlTextTrees.{first_lawful}
-use Rattle.tc_stream.specs.Bindings.{Binds, scope_with}
-use Rattle.tc_stream.specs.Chained.{first_such}
-use Rattle.tc_stream.specs.Forms.{FormRead, IsNameAt}
+use Rattle.tc_tags.specs.Bindings.{Binds, scope_with}
+use Rattle.tc_tags.specs.Chained.{first_such}
+use Rattle.tc_tags.specs.Forms.{FormRead, IsNameAt}
 use Rattle.tc_stream.specs.Goes.{Level, used}
 use Rattle.tc_stream.specs.Keeps.{written_bytes, Holds, IsLevel, AreLevels, AreOpen, IsText, IsKept, entered, AreMeantBehind, name_in, AreTexts, IsNamed, IsUnnamed}
-use Rattle.tc_stream.specs.Scoped.{declares, meant_by, bound_by, chains_in}
-use Rattle.tc_stream.specs.Spans.{at_span}
-use Rattle.tc_stream.specs.Written.{AreKept, AreMeant, AreWritten, Adds, StandsWithin, binding_in, bindings_of, declared_bytes}
+use Rattle.tc_tags.specs.Scoped.{declares, meant_by, bound_by, chains_in}
+use Rattle.tc_tags.specs.Spans.{at_span}
+use Rattle.tc_tags.specs.Written.{AreKept, AreMeant, AreWritten, Adds, StandsWithin, binding_in, bindings_of, declared_bytes}
 use Rattle.tc_stream.specs.XmlTextMeasures.{most_names}
-use Rattle.tc_stream.specs.XmlTextTags.{WrittenElement, written_length, declared_length, names_length}
-use Rattle.tc_stream.specs.declared.attributes.Attribute as listed
+use Rattle.tc_tags.specs.XmlTextTags.{WrittenElement, written_length, declared_length, names_length}
+use Rattle.tc_tags.specs.declared.attributes.Attribute as listed
 use Rattle.tc_stream.specs.declared.elements.Level as code
-use Rattle.tc_stream.specs.declared.names.Span.{Span}
-use Rattle.tc_stream.specs.declared.names.WrittenName.{WrittenName}
-use Rattle.tc_stream.specs.declared.scopes.Declared.{Declared}
-use Rattle.tc_stream.specs.declared.tags.Form.{Form}
-use Rattle.tc_stream.proofs.AddingLaws.{length_bytes}
-use Rattle.tc_stream.proofs.BindingLaws.{binds_more, once_with, scope_of_bindings, span_kept, bindings_kept, all_append}
-use Rattle.tc_stream.proofs.CountLaws.{local_some, some_locals, few_names}
+use Rattle.tc_tags.specs.declared.names.Span.{Span}
+use Rattle.tc_tags.specs.declared.names.WrittenName.{WrittenName}
+use Rattle.tc_tags.specs.declared.scopes.Declared.{Declared}
+use Rattle.tc_tags.specs.declared.tags.Form.{Form}
+use Rattle.tc_tags.proofs.AddingLaws.{length_bytes}
+use Rattle.tc_tags.proofs.BindingLaws.{binds_more, once_with, scope_of_bindings, span_kept, bindings_kept, all_append}
+use Rattle.tc_tags.proofs.CountLaws.{local_some, some_locals, few_names}
 use Rattle.tc_stream.proofs.KeepsLaws.{names_used, open_deep}
-use Rattle.tc_stream.proofs.MeaningLaws.{Means, means_so, meant_so}
-use Rattle.tc_stream.proofs.NameBytes.{name_alone}
-use Rattle.tc_stream.proofs.TagReadLaws.{name_some}
+use Rattle.tc_tags.proofs.MeaningLaws.{Means, means_so, meant_so}
+use Rattle.tc_tags.proofs.NameBytes.{name_alone}
+use Rattle.tc_tags.proofs.TagReadLaws.{name_some}
 
 -- The name of a tag
 

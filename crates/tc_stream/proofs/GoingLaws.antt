@@ -16,8 +16,8 @@ use Rattle.tc_model.specs.XmlTextContent as c
 use Rattle.tc_model.specs.XmlTextRefusals.{Cause, unsupported, too_deep, ContentRefuses, past_item, ElementRefuses, depth, tag, inside, DocumentRefuses}
 use Rattle.tc_model.specs.XmlTextRefusals as f
 use Rattle.tc_model.proofs.NormalForm.{dropped_empty}
-use Rattle.tc_stream.specs.XmlTextTags.{WrittenElement, TagFormAt, EndTagAt, ComesTo, to_root, into_element, names_length, open_names}
-use Rattle.tc_stream.specs.XmlTextTags as t
+use Rattle.tc_tags.specs.XmlTextTags.{WrittenElement, TagFormAt, EndTagAt, ComesTo, to_root, into_element, names_length, open_names}
+use Rattle.tc_tags.specs.XmlTextTags as t
 use Rattle.tc_stream.specs.XmlTextMeasures.{Measure, PassesAt}
 use Rattle.tc_stream.specs.XmlTextMeasures as m
 use Rattle.tc_stream.specs.Outcomes.{Outcome, document, refused, passed}

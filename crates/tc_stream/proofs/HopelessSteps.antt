@@ -18,7 +18,7 @@ use Rattle.tc_stream.specs.From.{Standing, open_in, ended, FromRoot, FromProlog,
 use Rattle.tc_stream.specs.declared.phases.Phase.{Phase}
 use Rattle.tc_stream.specs.declared.phases.Phase.TheVariants as phases
 use Rattle.tc_stream.proofs.MeasureLaws.{tag_begins}
-use Rattle.tc_stream.proofs.TagLaws.{form_begins, end_tag_begins}
+use Rattle.tc_tags.proofs.TagLaws.{form_begins, end_tag_begins}
 use Rattle.tc_stream.proofs.LongLaws.{long_begins}
 use Rattle.tc_stream.proofs.OneOutcome.{refused_begins, begins_kind}
 use Rattle.tc_stream.proofs.NothingSteps.{nothing_step, last_step}

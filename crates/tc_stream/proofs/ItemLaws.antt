@@ -7,7 +7,7 @@ use Rattle.tc_model.specs.Stripped.{bare, stripped}
 use Rattle.tc_model.specs.Trees.{Trees, none, text, element, beside, joined_to, joined, kept, dropped}
 use Rattle.tc_model.specs.XmlTextContent.{Piece, nothing, characters, whole, characters_before, piece_before}
 use Rattle.tc_model.proofs.NormalForm.{beside_assoc, dropped_empty, joined_twice, kept_beside}
-use Rattle.tc_stream.specs.XmlTextTags.{WrittenElement, names_length, open_names}
+use Rattle.tc_tags.specs.XmlTextTags.{WrittenElement, names_length, open_names}
 use Rattle.tc_stream.specs.Goes.{Level, all_written, used, depth_left, with_text, closed, Goes, GoesBehind, content}
 use Rattle.tc_stream.specs.Outcomes.{Outcome}
 

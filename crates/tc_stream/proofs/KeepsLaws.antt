@@ -13,15 +13,15 @@ use Rattle.tc_model.specs.XmlText.{deepest_element}
 use Rattle.tc_model.specs.XmlTextScopes.{first_scope}
 use Rattle.tc_stream.specs.Goes.{Level, depth_left, used, with_text, with_element}
 use Rattle.tc_stream.specs.Keeps.{Holds, IsLevel, AreLevels, AreOpen, IsText, IsKept, IsOfSome, IsReady, Keeps}
-use Rattle.tc_stream.specs.Scoped.{chain_in, chains_in}
-use Rattle.tc_stream.specs.Spans.{at_span}
-use Rattle.tc_stream.specs.Written.{AreKept, StandsWithin, bindings_of}
+use Rattle.tc_tags.specs.Scoped.{chain_in, chains_in}
+use Rattle.tc_tags.specs.Spans.{at_span}
+use Rattle.tc_tags.specs.Written.{AreKept, StandsWithin, bindings_of}
 use Rattle.tc_stream.specs.declared.elements.Elements.{Elements}
 use Rattle.tc_stream.specs.declared.elements.Level as code
 use Rattle.tc_stream.specs.declared.elements.NoElement.{NoElement}
-use Rattle.tc_stream.specs.declared.names.Span.{Span}
-use Rattle.tc_stream.specs.declared.scopes.Declared.{Declared}
-use Rattle.tc_stream.proofs.BindingLaws.{binds_none, once_first, span_kept, chains_kept}
+use Rattle.tc_tags.specs.declared.names.Span.{Span}
+use Rattle.tc_tags.specs.declared.scopes.Declared.{Declared}
+use Rattle.tc_tags.proofs.BindingLaws.{binds_none, once_first, span_kept, chains_kept}
 
 -- an error that is passed on
 pub passed_on : {T : Type 0} (r : Result T NoElement) (Q : NoElement → Type 0) (e : NoElement) → IsErrAnd r (λ x. x ≡ e) → Q e → IfErr r Q

@@ -14,7 +14,7 @@ use Rattle.tc_model.specs.XmlTextMisc.{CommentAt, InstructionAt, SettingAt, Enco
 use Rattle.tc_model.specs.XmlTextMisc as m
 use Rattle.tc_model.specs.XmlTextScopes.{WrittenAttribute}
 use Rattle.tc_model.specs.XmlTextContent.{Piece, AttributesAt, no_more, attribute, TagAt, ContentAt, at_end_tag, item, ItemAt, character_data, reference, cdata, comment, instruction, child, ElementAt, empty_tag, with_content}
-use Rattle.tc_stream.specs.XmlTextTags.{WrittenElement, TagFormAt, EndTagAt, ComesTo, to_root, into_element, past_item as past_one}
+use Rattle.tc_tags.specs.XmlTextTags.{WrittenElement, TagFormAt, EndTagAt, ComesTo, to_root, into_element, past_item as past_one}
 
 pub white_within : (bs : List ℕ) → length (after_white bs) ≤ length bs
 white_within bs = omega (arith, length-drop (prefix_len is_white bs) bs)

@@ -1,6 +1,5 @@
 pub mod MeasureLaws
 pub mod LengthLaws
-pub mod TagLaws
 pub mod LongLaws
 pub mod OneOutcome
 pub mod ItemLaws
@@ -25,7 +24,6 @@ pub mod InstructionLaws
 pub mod FrontExists
 pub mod FinalSteps
 pub mod RootOpens
-pub mod FailedLaws
 pub mod FaultLaws
 pub mod NamesSteps
 pub mod SplitLaws
@@ -51,21 +49,7 @@ pub mod EndSteps
 pub mod WordLaws
 pub mod DeclarationAnswers
 pub mod TagSearch
-pub mod ChainLaws
-pub mod ListedLaws
-pub mod ScopeLaws
-pub mod BindingLaws
-pub mod MeaningLaws
-pub mod LineLaws
-pub mod ValueLaws
-pub mod AddingLaws
-pub mod FormLaws
-pub mod TagReadLaws
-pub mod ElementLaws
-pub mod NameBytes
-pub mod RoomLaws
 pub mod KeepsLaws
-pub mod CountLaws
 pub mod EnterLaws
 pub mod PathLaws
 pub mod StandsLaws

@@ -13,12 +13,12 @@ use Rattle.tc_model.specs.XmlTextBytes.{Lacks, after_white}
 use Rattle.tc_model.specs.XmlTextNames.{NcNameAt, QualifiedName, QNameAt, unprefixed, prefixed}
 use Rattle.tc_model.proofs.XmlTextPhrases.{same_others, start_is_char}
 use Rattle.tc_stream.specs.Scans.{TagScan, ended, quoted, tag_scan}
-use Rattle.tc_stream.specs.XmlTextTags.{WrittenElement, TagFormAt, EndTagAt, WholeTagAt, tag_length}
-use Rattle.tc_stream.specs.XmlTextTags as t
+use Rattle.tc_tags.specs.XmlTextTags.{WrittenElement, TagFormAt, EndTagAt, WholeTagAt, tag_length}
+use Rattle.tc_tags.specs.XmlTextTags as t
 use Rattle.tc_stream.specs.XmlTextMeasures.{longest_tag, IsLongTag, long_start, long_end}
-use Rattle.tc_stream.specs.Begins.{BeginsTag}
+use Rattle.tc_tags.specs.Begins.{BeginsTag}
 use Rattle.tc_stream.specs.Goes.{Level, IsLong}
-use Rattle.tc_stream.proofs.TagLaws.{EndsAt, open_end, empty_end}
+use Rattle.tc_tags.proofs.TagLaws.{EndsAt, open_end, empty_end}
 use Rattle.tc_stream.proofs.TagEndLaws.{then_tag, tag_more, tag_scanned}
 use Rattle.tc_stream.proofs.TagSearch.{lacks_one}
 use Rattle.tc_stream.proofs.SplitLaws.{Splits, free_before, white_more, white_none}

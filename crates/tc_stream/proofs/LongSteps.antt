@@ -5,7 +5,7 @@ use Rattle.tc_model.specs.Names.{IsChars, is_ncname_start}
 use Rattle.tc_model.specs.RawTrees.{Bound}
 use Rattle.tc_model.specs.XmlTextBytes.{place_of}
 use Rattle.tc_model.proofs.XmlTextPhrases.{same_first, same_others}
-use Rattle.tc_stream.specs.Begins.{BeginsTag}
+use Rattle.tc_tags.specs.Begins.{BeginsTag}
 use Rattle.tc_stream.specs.XmlTextMeasures.{longest_tag, tag}
 use Rattle.tc_stream.specs.Outcomes.{Outcome, passed}
 use Rattle.tc_stream.specs.Goes.{Level, IsLong, Goes, long_tag}

@@ -12,7 +12,7 @@ use Rattle.tc_model.specs.XmlTextBytes.{Lacks}
 use Rattle.tc_model.specs.XmlTextScopes.{first_scope}
 use Rattle.tc_model.proofs.XmlTextChars.{one_char}
 use Rattle.tc_model.proofs.XmlTextPhrases.{start_is_char}
-use Rattle.tc_stream.specs.Begins.{BeginsTag}
+use Rattle.tc_tags.specs.Begins.{BeginsTag}
 use Rattle.tc_stream.specs.Outcomes.{Outcome}
 use Rattle.tc_stream.specs.From.{Standing, StillComes}
 use Rattle.tc_stream.specs.Scans.{quoted, tag_scan}

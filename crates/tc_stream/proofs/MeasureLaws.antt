@@ -9,9 +9,9 @@ use Rattle.tc_model.specs.XmlTextNames.{QualifiedName, QNameAt}
 use Rattle.tc_model.specs.XmlTextMisc.{MiscAt, DoctypeAt}
 use Rattle.tc_model.specs.XmlTextScopes.{TagMeans, first_scope}
 use Rattle.tc_model.specs.XmlTextContent.{Piece, TagAt, ContentAt, at_end_tag, item, ItemAt, character_data, reference, cdata, comment, instruction, child, ElementAt, empty_tag, with_content}
-use Rattle.tc_stream.specs.XmlTextTags as t
-use Rattle.tc_stream.specs.XmlTextTags.{WrittenElement, TagFormAt, WholeTagAt, ComesTo, to_root, into_element, past_item}
-use Rattle.tc_stream.specs.Begins.{BeginsTag}
+use Rattle.tc_tags.specs.XmlTextTags as t
+use Rattle.tc_tags.specs.XmlTextTags.{WrittenElement, TagFormAt, WholeTagAt, ComesTo, to_root, into_element, past_item}
+use Rattle.tc_tags.specs.Begins.{BeginsTag}
 use Rattle.tc_stream.specs.XmlTextMeasures.{PassesAt, long_tag, many_names, Measure, GoodTextsPassNothing}
 use Rattle.tc_model.proofs.XmlTextPhrases.{same_first, same_others, no_qname, declaration_unique, misc_unique, doctype_unique}
 use Rattle.tc_model.proofs.XmlTextUnique.{tag_unique, item_unique, no_item_at_end_tag, kind, markup, bang, character_data_kind, reference_kind, cdata_kind, comment_kind, instruction_kind, tag_kind}

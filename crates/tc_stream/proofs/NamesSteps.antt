@@ -4,14 +4,14 @@ use Rattle.std.specs.Prelude.{◌↔◌}
 use Rattle.tc_model.specs.Names.{IsChars}
 use Rattle.tc_model.specs.RawTrees.{Bound}
 use Rattle.tc_model.specs.XmlTextBytes.{place_of}
-use Rattle.tc_stream.specs.XmlTextTags.{WrittenElement, TagFormAt, names_length, tag_length}
+use Rattle.tc_tags.specs.XmlTextTags.{WrittenElement, TagFormAt, names_length, tag_length}
 use Rattle.tc_stream.specs.XmlTextMeasures.{Measure, names, longest_tag, most_names}
 use Rattle.tc_stream.specs.Outcomes.{Outcome, passed}
 use Rattle.tc_stream.specs.Goes.{Level, used, depth_left, Goes, many_names}
 use Rattle.tc_stream.specs.From.{Standing, open_in, FromPhase, StillComes}
 use Rattle.tc_stream.specs.declared.phases.Phase.{Phase}
 use Rattle.tc_stream.specs.declared.phases.Phase.TheVariants as phases
-use Rattle.tc_stream.proofs.TagLaws.{EndsAt, open_end, empty_end}
+use Rattle.tc_tags.proofs.TagLaws.{EndsAt, open_end, empty_end}
 use Rattle.tc_stream.proofs.StepLaws.{front_behind, front_past}
 use Rattle.tc_stream.proofs.TagSteps.{over_final}
 use Rattle.tc_stream.proofs.OpenSteps.{form_same}

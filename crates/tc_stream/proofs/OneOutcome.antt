@@ -17,15 +17,15 @@ use Rattle.tc_model.specs.XmlTextRefusals as f
 use Rattle.tc_model.proofs.XmlTextPhrases.{same_first, same_others, no_qname, qname_unique, equals_unique, quoted_unique, reference_unique, character_data_unique, cdata_unique, comment_unique, instruction_unique, declaration_unique, misc_unique, doctype_front_unique, doctype_unique}
 use Rattle.tc_model.proofs.XmlTextUnique.{tag_unique, kind, character_data_kind, reference_kind, cdata_kind, comment_kind, instruction_kind}
 use Rattle.tc_model.proofs.XmlTextRefused.{as_reference, other_no_reference, value_one, quoted_no_quoted, not_space, document_one, declaration_no_declaration, subset_no_doctype}
-use Rattle.tc_stream.specs.XmlTextTags.{WrittenElement, TagFormAt, EndTagAt, WholeTagAt, names_length, tag_length}
-use Rattle.tc_stream.specs.XmlTextTags as t
-use Rattle.tc_stream.specs.Begins.{BeginsTag}
+use Rattle.tc_tags.specs.XmlTextTags.{WrittenElement, TagFormAt, EndTagAt, WholeTagAt, names_length, tag_length}
+use Rattle.tc_tags.specs.XmlTextTags as t
+use Rattle.tc_tags.specs.Begins.{BeginsTag}
 use Rattle.tc_stream.specs.XmlTextMeasures.{longest_tag, most_names, tag, names}
 use Rattle.tc_stream.specs.Outcomes.{Outcome, refused, passed}
 use Rattle.tc_stream.specs.Goes.{Level, used, depth_left, with_text, Closed, closed, Fits, IsLong, Goes, characters, reference, cdata, comment, instruction, start_tag, empty_tag, end_tag, entity, deep, construct, long_tag, many_names, GoesBehind, content, end}
 use Rattle.tc_stream.specs.From.{FromRoot, FromProlog, subset, root, FromFront, declaration, prolog}
 use Rattle.tc_stream.proofs.MeasureLaws.{tag_of, tag_begins}
-use Rattle.tc_stream.proofs.TagLaws.{EndsAt, ends_at, ends_one, whole_of_form, form_unique, end_tag_unique, no_form_at_end_tag, refused_no_form, begins_by, form_begins, end_tag_begins}
+use Rattle.tc_tags.proofs.TagLaws.{EndsAt, ends_at, ends_one, whole_of_form, form_unique, end_tag_unique, no_form_at_end_tag, refused_no_form, begins_by, form_begins, end_tag_begins}
 use Rattle.tc_stream.proofs.LongLaws.{long_begins, long_deep, long_not_short, tag_starts}
 
 -- an element whose tag is just read

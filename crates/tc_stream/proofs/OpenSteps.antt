@@ -8,7 +8,7 @@ use Rattle.tc_model.specs.XmlTextBytes.{after_white, place_of}
 use Rattle.tc_model.specs.XmlTextNames.{QNameAt}
 use Rattle.tc_model.specs.XmlTextScopes.{WrittenAttribute, TagMeans}
 use Rattle.tc_model.specs.XmlTextContent.{EndsTag, AttributesAt, no_more, attribute}
-use Rattle.tc_stream.specs.XmlTextTags.{WrittenElement, TagFormAt, EndTagAt, names_length, tag_length}
+use Rattle.tc_tags.specs.XmlTextTags.{WrittenElement, TagFormAt, EndTagAt, names_length, tag_length}
 use Rattle.tc_stream.specs.XmlTextMeasures.{longest_tag, most_names}
 use Rattle.tc_stream.specs.Outcomes.{Outcome}
 use Rattle.tc_stream.specs.Goes.{Level, used, depth_left, with_text, Closed, within, finished, closed, Fits, Goes, GoesBehind, content, end}

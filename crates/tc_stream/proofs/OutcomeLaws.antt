@@ -5,9 +5,9 @@ use Rattle.tc_model.specs.XmlText.{XmlText, after_mark}
 use Rattle.tc_model.specs.XmlTextBytes.{place_of}
 use Rattle.tc_model.specs.XmlTextContent.{Piece, ContentAt, at_end_tag, item, ItemAt, ElementAt, empty_tag, with_content}
 use Rattle.tc_model.proofs.XmlTextRefused.{front_unique, whole_front}
-use Rattle.tc_stream.specs.XmlTextTags.{WrittenElement, TagFormAt, EndTagAt, WholeTagAt, ComesTo, open_names, tag_length}
-use Rattle.tc_stream.specs.XmlTextTags as t
-use Rattle.tc_stream.specs.Begins.{BeginsTag}
+use Rattle.tc_tags.specs.XmlTextTags.{WrittenElement, TagFormAt, EndTagAt, WholeTagAt, ComesTo, open_names, tag_length}
+use Rattle.tc_tags.specs.XmlTextTags as t
+use Rattle.tc_tags.specs.Begins.{BeginsTag}
 use Rattle.tc_stream.specs.XmlTextMeasures.{Measure, longest_tag, most_names, IsGood, IsLongTag, PassesAt, PassesFirst, IsWithinMeasures}
 use Rattle.tc_stream.specs.XmlTextMeasures as m
 use Rattle.tc_stream.specs.Outcomes.{Outcome, document, refused, passed, Comes}
@@ -15,7 +15,7 @@ use Rattle.tc_stream.specs.From.{FromFront, Standing, open_in, StillComes, Comes
 use Rattle.tc_stream.specs.declared.phases.Phase.TheVariants as phases
 use Rattle.tc_stream.proofs.MeasureLaws.{Ahead, ahead, element_there, tag_begins, good_texts_pass_nothing}
 use Rattle.tc_stream.proofs.LengthLaws.{at_most_or_more}
-use Rattle.tc_stream.proofs.TagLaws.{open_end, empty_end, form_of, form_unique, whole_form_unique, whole_unique, no_form_at_end_tag, form_begins, end_tag_begins}
+use Rattle.tc_tags.proofs.TagLaws.{open_end, empty_end, form_of, form_unique, whole_form_unique, whole_unique, no_form_at_end_tag, form_begins, end_tag_begins}
 use Rattle.tc_stream.proofs.LongLaws.{long_form, long_end_tag}
 use Rattle.tc_stream.proofs.ComingLaws.{comes_document, comes_refused, comes_passed}
 use Rattle.tc_stream.proofs.GoingLaws.{told_front, none_before}

@@ -15,7 +15,7 @@ use Rattle.tc_steps.specs.declared.table.Steps.{Steps}
 use Rattle.tc_steps.specs.declared.validity.Validity.{Validity}
 use Rattle.tc_stream.specs.Goes.{Level, with_text, with_element}
 use Rattle.tc_stream.specs.Keeps.{path_of, StandIn, AreSteps, entered}
-use Rattle.tc_stream.specs.XmlTextTags.{WrittenElement}
+use Rattle.tc_tags.specs.XmlTextTags.{WrittenElement}
 
 -- into an element
 pub steps_entered : (x : Grammar) (v : Validity) (e : WrittenElement) (n : ExpandedName) (outer : List Bound) (run : List ℕ) (ls : List Level)

@@ -3,7 +3,7 @@ use Rattle.std.proofs.Common.{◌≢◌, ℕ, ◌+◌, List, [], ◌∷◌, ◌+
 use Rattle.std.specs.Prelude.{◌↔◌}
 use Rattle.tc_model.specs.Names.{IsChars}
 use Rattle.tc_model.specs.XmlTextScopes.{first_scope}
-use Rattle.tc_stream.specs.Begins.{BeginsTag}
+use Rattle.tc_tags.specs.Begins.{BeginsTag}
 use Rattle.tc_stream.specs.Outcomes.{Outcome}
 use Rattle.tc_stream.specs.From.{Standing, open_in, FromPhase, StillComes}
 use Rattle.tc_stream.specs.declared.phases.Phase.{Phase}

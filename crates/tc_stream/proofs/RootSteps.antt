@@ -6,7 +6,7 @@ use Rattle.tc_model.specs.XmlTextBytes.{after_white}
 use Rattle.tc_model.specs.XmlTextMisc.{MiscAt, no_more, IsNoMisc, DoctypeAt, no_doctype}
 use Rattle.tc_model.specs.XmlTextScopes.{first_scope}
 use Rattle.tc_model.proofs.XmlTextPhrases.{same_first, same_others, misc_unique, doctype_unique}
-use Rattle.tc_stream.specs.Begins.{BeginsTag}
+use Rattle.tc_tags.specs.Begins.{BeginsTag}
 use Rattle.tc_stream.specs.Outcomes.{Outcome}
 use Rattle.tc_stream.specs.Goes.{Goes}
 use Rattle.tc_stream.specs.From.{Standing, FromRoot, FromProlog, subset, root, FromFront, FromPhase}

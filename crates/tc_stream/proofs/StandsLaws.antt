@@ -10,7 +10,7 @@ use Rattle.tc_model.specs.XmlTextBytes.{FrontOf, Lacks}
 use Rattle.tc_model.specs.XmlTextScopes.{first_scope}
 use Rattle.tc_model.proofs.XmlTextChars.{no_chars, join_chars}
 use Rattle.tc_model.proofs.XmlTextRefused.{front_unique, whole_front}
-use Rattle.tc_stream.specs.Begins.{BeginsTag}
+use Rattle.tc_tags.specs.Begins.{BeginsTag}
 use Rattle.tc_stream.specs.Outcomes.{Outcome, Comes}
 use Rattle.tc_stream.specs.Goes.{Level}
 use Rattle.tc_stream.specs.From.{Standing, open_in, StillComes}

@@ -9,18 +9,18 @@ use Rattle.tc_model.specs.XmlTextNames.{QNameAt}
 use Rattle.tc_model.specs.XmlTextScopes.{TagMeans, WrittenAttribute}
 use Rattle.tc_model.proofs.XmlTextChars.{join_chars}
 use Rattle.tc_steps.specs.Led.{IsStarted}
-use Rattle.tc_stream.specs.XmlTextTags.{WrittenElement, TagFormAt, EndTagAt, names_length}
+use Rattle.tc_tags.specs.XmlTextTags.{WrittenElement, TagFormAt, EndTagAt, names_length}
 use Rattle.tc_stream.specs.XmlTextMeasures.{longest_tag, most_names}
 use Rattle.tc_stream.specs.Outcomes.{Outcome, Comes}
 use Rattle.tc_stream.specs.Goes.{Level, used, depth_left, with_text, with_element}
 use Rattle.tc_stream.specs.From.{open_in, ended, StillComes}
 use Rattle.tc_stream.specs.Faults.{IsFaultOfFront}
-use Rattle.tc_stream.specs.Forms.{FormRead}
+use Rattle.tc_tags.specs.Forms.{FormRead}
 use Rattle.tc_stream.specs.Keeps.{AreLevels, AreSteps, Keeps, NoStart, Starts, entered}
 use Rattle.tc_stream.specs.Keeps as k
 use Rattle.tc_stream.specs.Stands as stands
 use Rattle.tc_stream.specs.TagStands.{StandsBehind, TagStands, TellsNoElement}
-use Rattle.tc_stream.specs.Written.{bindings_of}
+use Rattle.tc_tags.specs.Written.{bindings_of}
 use Rattle.tc_stream.specs.declared.elements.Elements.{Elements}
 use Rattle.tc_stream.specs.declared.elements.Level as code
 use Rattle.tc_stream.specs.declared.elements.NoElement.{NoElement}
@@ -28,9 +28,9 @@ use Rattle.tc_stream.specs.declared.elements.NoElement.TheVariants as reasons
 use Rattle.tc_stream.specs.declared.faults.StreamFault.{StreamFault}
 use Rattle.tc_stream.specs.declared.faults.StreamFault.TheVariants as faults
 use Rattle.tc_stream.specs.declared.phases.Phase.TheVariants as phases
-use Rattle.tc_stream.specs.declared.scopes.Declared.{Declared}
-use Rattle.tc_stream.specs.declared.tags.Form.{Form}
-use Rattle.tc_stream.proofs.TagLaws.{EndsAt, open_end, empty_end}
+use Rattle.tc_tags.specs.declared.scopes.Declared.{Declared}
+use Rattle.tc_tags.specs.declared.tags.Form.{Form}
+use Rattle.tc_tags.proofs.TagLaws.{EndsAt, open_end, empty_end}
 use Rattle.tc_stream.proofs.TagExtendLaws.{SameBut, none_same, one_same, means_same}
 use Rattle.tc_stream.proofs.OpenSteps.{start_step, empty_step, end_step}
 use Rattle.tc_stream.proofs.NamesSteps.{many_step}

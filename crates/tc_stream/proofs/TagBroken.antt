@@ -9,9 +9,9 @@ use Rattle.tc_model.specs.XmlTextNames.{QualifiedName, QNameAt}
 use Rattle.tc_model.specs.XmlTextRefusals.{unsupported, TagRefuses}
 use Rattle.tc_model.proofs.XmlTextPhrases.{same_first, same_others, no_qname, up_to_unique}
 use Rattle.tc_model.proofs.XmlTextUnique.{kind}
-use Rattle.tc_stream.specs.Begins.{BeginsTag}
+use Rattle.tc_tags.specs.Begins.{BeginsTag}
 use Rattle.tc_stream.specs.Cuts.{BeginsNoChar}
-use Rattle.tc_stream.specs.XmlTextTags.{WrittenElement, TagFormAt, EndTagAt}
+use Rattle.tc_tags.specs.XmlTextTags.{WrittenElement, TagFormAt, EndTagAt}
 use Rattle.tc_stream.specs.XmlTextMeasures.{longest_tag}
 use Rattle.tc_stream.specs.Outcomes.{Outcome, refused}
 use Rattle.tc_stream.specs.Goes.{Level, depth_left, Goes, construct}
@@ -19,7 +19,7 @@ use Rattle.tc_stream.specs.From.{open_in, StillComes}
 use Rattle.tc_stream.specs.Scans.{ended, quoted, tag_scan}
 use Rattle.tc_stream.specs.declared.phases.Phase.TheVariants as phases
 use Rattle.tc_stream.proofs.MeasureLaws.{tag_begins}
-use Rattle.tc_stream.proofs.TagLaws.{EndsAt, open_end, empty_end, no_form_at_end_tag}
+use Rattle.tc_tags.proofs.TagLaws.{EndsAt, open_end, empty_end, no_form_at_end_tag}
 use Rattle.tc_stream.proofs.OneOutcome.{AtTag, starts, stands_alone, ends, is_deep, is_refused, is_long, has_many, at_tag, closes_one}
 use Rattle.tc_stream.proofs.SplitLaws.{splits_up_to}
 use Rattle.tc_stream.proofs.EncodedLaws.{free_of, free_lacks}

@@ -13,7 +13,7 @@ use Rattle.tc_model.specs.XmlTextReferences as r
 use Rattle.tc_model.specs.XmlTextScopes.{WrittenAttribute}
 use Rattle.tc_model.specs.XmlTextContent.{EndsTag, AttributesAt, no_more, attribute}
 use Rattle.tc_model.proofs.XmlTextPhrases.{same_first, same_others}
-use Rattle.tc_stream.specs.XmlTextTags.{WrittenElement, TagFormAt, EndTagAt}
+use Rattle.tc_tags.specs.XmlTextTags.{WrittenElement, TagFormAt, EndTagAt}
 use Rattle.tc_stream.proofs.LengthLaws.{white_within, name_within, qname_within, run_within, value_within, equals_within, attributes_within}
 use Rattle.tc_stream.proofs.TagExtendLaws.{Begun, begins_as, none_same, one_same, spaces_same, KeptAttributes, KeptForm}
 

@@ -15,9 +15,9 @@ use Rattle.tc_model.specs.XmlTextReferences as r
 use Rattle.tc_model.specs.XmlTextScopes.{WrittenAttribute}
 use Rattle.tc_model.specs.XmlTextContent.{AttributesAt, no_more, attribute}
 use Rattle.tc_model.proofs.XmlTextPhrases.{start_is_char, fails_at}
-use Rattle.tc_stream.specs.XmlTextTags.{WrittenElement, TagFormAt}
+use Rattle.tc_tags.specs.XmlTextTags.{WrittenElement, TagFormAt}
 use Rattle.tc_stream.specs.Scans.{TagScan, ended, quoted, tag_scan}
-use Rattle.tc_stream.proofs.TagLaws.{EndsAt, open_end, empty_end}
+use Rattle.tc_tags.proofs.TagLaws.{EndsAt, open_end, empty_end}
 
 -- what a scan is behind more bytes
 abbrev pub then_tag : TagScan → List ℕ → TagScan

@@ -18,7 +18,7 @@ use Rattle.tc_model.specs.XmlTextScopes as s
 use Rattle.tc_model.specs.XmlTextContent.{EndsTag, AttributesAt, no_more, attribute}
 use Rattle.tc_model.proofs.XmlTextPhrases.{same_first, reference_first, run_first}
 use Rattle.tc_model.proofs.XmlTextUnique.{no_empty_qname}
-use Rattle.tc_stream.specs.XmlTextTags.{WrittenElement, TagFormAt, EndTagAt, declared_length}
+use Rattle.tc_tags.specs.XmlTextTags.{WrittenElement, TagFormAt, EndTagAt, declared_length}
 
 -- bytes that begin with one
 pub record Begun (bs : List ℕ) : Type 0 where

@@ -7,16 +7,16 @@ use Rattle.tc_model.specs.Grammars.{Grammar}
 use Rattle.tc_model.specs.Names.{IsChars}
 use Rattle.tc_model.specs.RawTrees.{Bound}
 use Rattle.tc_model.specs.XmlTextRefusals.{unsupported, TagRefuses}
-use Rattle.tc_stream.specs.Begins.{BeginsTag}
+use Rattle.tc_tags.specs.Begins.{BeginsTag}
 use Rattle.tc_stream.specs.Cuts.{BeginsNoChar}
-use Rattle.tc_stream.specs.XmlTextTags.{WrittenElement, TagFormAt, EndTagAt}
+use Rattle.tc_tags.specs.XmlTextTags.{WrittenElement, TagFormAt, EndTagAt}
 use Rattle.tc_stream.specs.XmlTextMeasures.{longest_tag}
 use Rattle.tc_stream.specs.XmlTextMeasures as m
 use Rattle.tc_stream.specs.Outcomes.{Outcome, refused, passed, Comes}
 use Rattle.tc_stream.specs.Goes.{Level, depth_left}
 use Rattle.tc_stream.specs.From.{open_in, StillComes}
 use Rattle.tc_stream.specs.Faults.{IsFaultOf, IsFaultOfFront}
-use Rattle.tc_stream.specs.Forms.{FormRead}
+use Rattle.tc_tags.specs.Forms.{FormRead}
 use Rattle.tc_stream.specs.Keeps.{Keeps}
 use Rattle.tc_stream.specs.Scans.{ended, quoted, tag_scan}
 use Rattle.tc_stream.specs.TagStands.{TagStands, IsStartTag, IsEndTag, TellsFault, NoFormTold, TagTold}
@@ -25,10 +25,10 @@ use Rattle.tc_stream.specs.declared.elements.Elements.{Elements}
 use Rattle.tc_stream.specs.declared.faults.StreamFault.{StreamFault}
 use Rattle.tc_stream.specs.declared.faults.StreamFault.TheVariants as faults
 use Rattle.tc_stream.specs.declared.phases.Phase.TheVariants as phases
-use Rattle.tc_stream.specs.declared.tags.Form.{Form}
-use Rattle.tc_stream.specs.declared.tags.NoForm.{NoForm}
-use Rattle.tc_stream.specs.declared.tags.NoForm.TheVariants as stops
-use Rattle.tc_stream.proofs.TagLaws.{EndsAt, open_end, empty_end, form_loosened}
+use Rattle.tc_tags.specs.declared.tags.Form.{Form}
+use Rattle.tc_tags.specs.declared.tags.NoForm.{NoForm}
+use Rattle.tc_tags.specs.declared.tags.NoForm.TheVariants as stops
+use Rattle.tc_tags.proofs.TagLaws.{EndsAt, open_end, empty_end, form_loosened}
 use Rattle.tc_stream.proofs.LongLaws.{Starts}
 use Rattle.tc_stream.proofs.TagEndLaws.{tag_scanned}
 use Rattle.tc_stream.proofs.TagBroken.{IsNoEndTag, IsNoTag, end_missing, tag_missing, tag_unended, refused_unended}

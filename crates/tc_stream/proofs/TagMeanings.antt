@@ -4,15 +4,15 @@ use Rattle.std.specs.Prelude.{sum_by}
 use Rattle.tc_model.specs.Names.{ExpandedName, IsChars}
 use Rattle.tc_model.specs.RawTrees.{Attribute, Bound}
 use Rattle.tc_model.specs.XmlTextScopes.{WrittenAttribute, TagMeans, binding_of, is_declaration}
-use Rattle.tc_stream.specs.XmlTextTags.{WrittenElement, TagFormAt, declared_length, written_length, names_length, tag_length}
+use Rattle.tc_tags.specs.XmlTextTags.{WrittenElement, TagFormAt, declared_length, written_length, names_length, tag_length}
 use Rattle.tc_stream.specs.XmlTextMeasures.{longest_tag, most_names}
 use Rattle.tc_stream.specs.Outcomes.{Outcome}
 use Rattle.tc_stream.specs.Goes.{Level, used, depth_left}
 use Rattle.tc_stream.specs.From.{open_in, StillComes}
-use Rattle.tc_stream.specs.Written.{bindings_of}
+use Rattle.tc_tags.specs.Written.{bindings_of}
 use Rattle.tc_stream.specs.declared.phases.Phase.TheVariants as phases
 use Rattle.tc_stream.proofs.MeasureLaws.{tag_begins}
-use Rattle.tc_stream.proofs.TagLaws.{EndsAt, open_end, empty_end, form_unique, form_begins, refused_no_form, whole_of_form}
+use Rattle.tc_tags.proofs.TagLaws.{EndsAt, open_end, empty_end, form_unique, form_begins, refused_no_form, whole_of_form}
 use Rattle.tc_stream.proofs.LongLaws.{long_not_short}
 use Rattle.tc_stream.proofs.OneOutcome.{AtTag, starts, stands_alone, ends, is_deep, is_refused, is_long, has_many, at_tag, start_end, few_many}
 use Rattle.tc_stream.proofs.TagExtendLaws.{KeptForm, SameBut, none_same, one_same, form_kept, lengths_same}

@@ -1,6 +1,7 @@
 -- How a reader goes on in a tag, and why it doesn't.
 use Rattle.std.proofs.Common.{◌≡◌, ◌≢◌, ℕ, ◌<◌, ◌≤◌, ◌+◌, ◌-◌, Bool, true, false, ◌==◌, if◌then◌else◌, List, [], ◌∷◌, ◌++◌, refl, ap, ◌∙◌, sym, subst, length, take, drop, get_or, arith, codes, Option, None, Some, Result, Ok, Err, IsErrAnd, IsUtf8, IsCharBoundary, append_assoc, append-nil, length-append, take-append-drop, length-drop}
 use Rattle.std.specs.Prelude.{IfOk, IfErr}
+use Rattle.tc_model.proofs.XmlTextChars.{chars_utf8}
 use Rattle.std.proofs.Math.Seq.{take-append-add}
 use Rattle.std.proofs.lemmas.Bool.{eqb-true}
 use Rattle.std.proofs.lemmas.List.{length-take-le, take-append-le, take_rest}
@@ -11,7 +12,7 @@ use Rattle.tc_model.specs.Names.{IsChars}
 use Rattle.tc_model.specs.RawTrees.{Bound}
 use Rattle.tc_model.specs.XmlTextBytes.{FrontOf, Lacks}
 use Rattle.tc_model.proofs.XmlTextChars.{cut_chars, no_chars}
-use Rattle.tc_stream.specs.Begins.{BeginsTag}
+use Rattle.tc_tags.specs.Begins.{BeginsTag}
 use Rattle.tc_stream.specs.XmlTextMeasures.{longest_tag, long_start, long_end}
 use Rattle.tc_stream.specs.Cuts.{BeginsNoChar}
 use Rattle.tc_stream.specs.Goes.{Level, IsLong}
@@ -25,7 +26,7 @@ use Rattle.tc_stream.specs.TagStands.{TagStands, IsStartTag, IsEndTag, TagTold}
 use Rattle.tc_stream.specs.declared.elements.Elements.{Elements}
 use Rattle.tc_stream.specs.declared.faults.StreamFault.{StreamFault}
 use Rattle.tc_stream.specs.declared.faults.StreamFault.TheVariants as faults
-use Rattle.tc_stream.specs.declared.names.Room.{Room}
+use Rattle.tc_tags.specs.declared.names.Room.{Room}
 use Rattle.tc_stream.specs.declared.parts.Part.TheVariants as parts
 use Rattle.tc_stream.specs.declared.reader.Reader.{Reader}
 use Rattle.tc_stream.specs.declared.tag_ends.TagEnd.TheVariants as tags
@@ -310,9 +311,9 @@ stands_moved {x} t new keeps same = record {
 }
 
 -- the same by the tag as it is read
-pub start_by : {x : Grammar} {e : Elements} {place : ℕ} {item chars tag : List ℕ} → FrontOf item tag → IsStartTag item → TagStands x e place item chars → IsStartTag tag × TagStands x e place tag chars
+pub start_by : {x : Grammar} {e : Elements} {place : ℕ} {item chars tag : List ℕ} → (IsUtf8 item → tag ≡ item) → IsStartTag item → TagStands x e place item chars → IsStartTag tag × TagStands x e place tag chars
 start_by {x} {e} {place} {item} {chars} k w t =
-    let same = front_whole t.item_chars k in (subst IsStartTag (sym same) w, subst (λ z. TagStands x e place z chars) (sym same) t)
+    let same = k (chars_utf8 item t.item_chars) in (subst IsStartTag (sym same) w, subst (λ z. TagStands x e place z chars) (sym same) t)
 
 pub record EndBy (x : Grammar) (e : Elements) (place : ℕ) (tag chars : List ℕ) : Type 0 where
   pub is_end : IsEndTag tag

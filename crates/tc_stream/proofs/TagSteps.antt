@@ -9,14 +9,14 @@ use Rattle.tc_model.specs.XmlTextScopes.{TagMeans}
 use Rattle.tc_model.proofs.XmlTextPhrases.{same_others, no_qname}
 use Rattle.tc_model.specs.XmlTextNames.{QNameAt}
 use Rattle.tc_model.proofs.XmlTextUnique.{tag_unique}
-use Rattle.tc_stream.specs.XmlTextTags.{WrittenElement, TagFormAt, EndTagAt, tag_length}
-use Rattle.tc_stream.specs.XmlTextTags as t
+use Rattle.tc_tags.specs.XmlTextTags.{WrittenElement, TagFormAt, EndTagAt, tag_length}
+use Rattle.tc_tags.specs.XmlTextTags as t
 use Rattle.tc_stream.specs.XmlTextMeasures.{longest_tag}
 use Rattle.tc_stream.specs.Outcomes.{Outcome}
 use Rattle.tc_stream.specs.Goes.{Level, used, depth_left, with_text, closed, Fits, Goes, start_tag, empty_tag, end_tag, GoesBehind}
 use Rattle.tc_stream.specs.Scans.{ended, tag_scan}
 use Rattle.tc_stream.proofs.MeasureLaws.{tag_of, tag_begins}
-use Rattle.tc_stream.proofs.TagLaws.{EndsAt, open_end, empty_end, form_unique, end_tag_unique, no_form_at_end_tag, refused_no_form, form_begins, end_tag_begins}
+use Rattle.tc_tags.proofs.TagLaws.{EndsAt, open_end, empty_end, form_unique, end_tag_unique, no_form_at_end_tag, refused_no_form, form_begins, end_tag_begins}
 use Rattle.tc_stream.proofs.LongLaws.{long_not_short}
 use Rattle.tc_stream.proofs.OneOutcome.{opened, AtTag, starts, stands_alone, ends, is_deep, is_refused, is_long, has_many, at_tag, closes_one, open_empty, start_end, few_many, start_moved, goes_one}
 use Rattle.tc_stream.proofs.TagEndLaws.{then_tag, tag_scanned, tag_more}

@@ -12,7 +12,7 @@ use Rattle.tc_model.specs.XmlTextScopes.{TagMeans}
 use Rattle.tc_model.specs.XmlTextRefusals.{unsupported, too_deep, OtherEntityAt, TagRefuses}
 use Rattle.tc_base.specs.declared.reasons.Why.{Why}
 use Rattle.tc_base.specs.declared.reasons.Why.TheVariants.{EntityReference}
-use Rattle.tc_stream.specs.XmlTextTags.{WrittenElement, TagFormAt, EndTagAt, names_length, tag_length}
+use Rattle.tc_tags.specs.XmlTextTags.{WrittenElement, TagFormAt, EndTagAt, names_length, tag_length}
 use Rattle.tc_stream.specs.XmlTextMeasures.{longest_tag, most_names, tag, names, IsLongTag}
 use Rattle.tc_stream.specs.Outcomes.{Outcome, document, refused, passed}
 

@@ -12,22 +12,22 @@ use Rattle.tc_steps.specs.Led.{IsStarted}
 use Rattle.tc_steps.specs.Open.{Open, IsWithin}
 use Rattle.tc_steps.specs.Open as st
 use Rattle.tc_steps.specs.declared.validity.Validity.{Validity}
-use Rattle.tc_stream.specs.Bindings.{Binds, IsOnce}
-use Rattle.tc_stream.specs.Forms.{FormRead}
+use Rattle.tc_tags.specs.Bindings.{Binds, IsOnce}
+use Rattle.tc_tags.specs.Forms.{FormRead}
 use Rattle.tc_stream.specs.Goes.{Level, used, with_text, with_element}
-use Rattle.tc_stream.specs.Scoped.{bound_by}
-use Rattle.tc_stream.specs.Spans.{at_span}
-use Rattle.tc_stream.specs.Written.{AreKept, AreMeant, AreWritten, StandsWithin, binding_in, bindings_of}
+use Rattle.tc_tags.specs.Scoped.{bound_by}
+use Rattle.tc_tags.specs.Spans.{at_span}
+use Rattle.tc_tags.specs.Written.{AreKept, AreMeant, AreWritten, StandsWithin, binding_in, bindings_of}
 use Rattle.tc_stream.specs.XmlTextMeasures.{most_names}
-use Rattle.tc_stream.specs.XmlTextTags.{WrittenElement, names_length}
-use Rattle.tc_stream.specs.declared.attributes.Attribute as listed
+use Rattle.tc_tags.specs.XmlTextTags.{WrittenElement, names_length}
+use Rattle.tc_tags.specs.declared.attributes.Attribute as listed
 use Rattle.tc_stream.specs.declared.elements.Elements.{Elements}
 use Rattle.tc_stream.specs.declared.elements.Level as code
 use Rattle.tc_stream.specs.declared.elements.NoElement.{NoElement}
 use Rattle.tc_stream.specs.declared.elements.NoElement.TheVariants.{Malformed, NamesTooLong}
-use Rattle.tc_stream.specs.declared.names.WrittenName.{WrittenName}
-use Rattle.tc_stream.specs.declared.scopes.Declared.{Declared}
-use Rattle.tc_stream.specs.declared.tags.Form.{Form}
+use Rattle.tc_tags.specs.declared.names.WrittenName.{WrittenName}
+use Rattle.tc_tags.specs.declared.scopes.Declared.{Declared}
+use Rattle.tc_tags.specs.declared.tags.Form.{Form}
 
 -- a name as it is written
 abbrev pub written_bytes : QualifiedName → List ℕ

@@ -1,5 +1,3 @@
-pub mod Begins
-pub mod XmlTextTags
 pub mod XmlTextMeasures
 pub mod Outcomes
 pub mod Goes
@@ -22,14 +20,6 @@ pub mod Counted
 pub mod Phases
 pub mod Parts
 pub mod TagEnds
-pub mod Spans
-pub mod Chained
-pub mod Scoped
-pub mod Listed
-pub mod Bindings
-pub mod Values
-pub mod Written
-pub mod Forms
 pub mod Keeps
 pub mod Reading
 pub mod Stands

@@ -6,15 +6,15 @@ use Rattle.tc_model.specs.Grammars.{Grammar}
 use Rattle.tc_model.specs.Names.{IsChars, is_ncname_start}
 use Rattle.tc_model.specs.RawTrees.{Bound}
 use Rattle.tc_model.specs.XmlTextRefusals.{TagRefuses}
-use Rattle.tc_stream.specs.Forms.{FormRead, Refuses, UnsupportedAt, OnMalformed}
+use Rattle.tc_tags.specs.Forms.{FormRead, Refuses, UnsupportedAt, OnMalformed}
 use Rattle.tc_stream.specs.From.{Standing, open_in, StillComes}
-use Rattle.tc_stream.specs.Begins.{BeginsTag}
+use Rattle.tc_tags.specs.Begins.{BeginsTag}
 use Rattle.tc_stream.specs.Goes.{Level}
 use Rattle.tc_stream.specs.Keeps.{AreSteps, Keeps}
 use Rattle.tc_stream.specs.Outcomes.{Outcome, Comes}
 use Rattle.tc_stream.specs.Scans.{ended, quoted, tag_scan}
 use Rattle.tc_stream.specs.Stands.{Tells}
-use Rattle.tc_stream.specs.XmlTextTags.{WrittenElement, TagFormAt}
+use Rattle.tc_tags.specs.XmlTextTags.{WrittenElement, TagFormAt}
 use Rattle.tc_stream.specs.declared.elements.Elements.{Elements}
 use Rattle.tc_stream.specs.declared.elements.NoElement.{NoElement}
 use Rattle.tc_stream.specs.declared.elements.NoElement.TheVariants as elements
@@ -25,9 +25,9 @@ use Rattle.tc_stream.specs.declared.phases.Phase.{Phase}
 use Rattle.tc_stream.specs.declared.phases.Phase.TheVariants as phases
 use Rattle.tc_stream.specs.declared.tag_reading.Scanned.{Scanned}
 use Rattle.tc_stream.specs.declared.tag_reading.Scanned.TheVariants as scans
-use Rattle.tc_stream.specs.declared.tags.Form.{Form}
-use Rattle.tc_stream.specs.declared.tags.NoForm.{NoForm}
-use Rattle.tc_stream.specs.declared.tags.NoForm.TheVariants as stops
+use Rattle.tc_tags.specs.declared.tags.Form.{Form}
+use Rattle.tc_tags.specs.declared.tags.NoForm.{NoForm}
+use Rattle.tc_tags.specs.declared.tags.NoForm.TheVariants as stops
 
 -- how far a tag goes in some bytes, within these quotes or none
 abbrev pub TellsScanned : Option ℕ → List ℕ → Scanned → Type 0

@@ -6,7 +6,7 @@ use Rattle.tc_model.specs.RawTrees.{RawTrees, Bound}
 use Rattle.tc_model.specs.XmlTextBytes.{FrontOf, Lacks, place_of}
 use Rattle.tc_model.specs.XmlText.{XmlText}
 use Rattle.tc_stream.specs.Scans.{ended, tag_scan}
-use Rattle.tc_stream.specs.XmlTextTags.{WrittenElement, TagFormAt, WholeTagAt, ComesTo, tag_length, open_names}
+use Rattle.tc_tags.specs.XmlTextTags.{WrittenElement, TagFormAt, WholeTagAt, ComesTo, tag_length, open_names}
 
 -- A good text: one of the form of XML, with its raw tree, in which no tag and no names of open elements pass their limits. An element whose tag is
 -- just read is open, an empty one too.

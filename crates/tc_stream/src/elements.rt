@@ -13,21 +13,19 @@ ghost use Rattle.tc_model.specs.XmlTextNames.{QNameAt, QualifiedName};
 ghost use Rattle.tc_model.specs.XmlTextRefusals.{TagRefuses};
 ghost use Rattle.tc_model.specs.XmlTextScopes.{first_scope};
 ghost use Rattle.tc_steps.specs.Led.{IsStarted};
-ghost use Rattle.tc_stream.specs.Forms.{FormRead, IsNameAt, OnMalformed, Refuses, UnsupportedAt};
+ghost use Rattle.tc_tags.specs.Forms.{FormRead, IsNameAt, OnMalformed, Refuses, UnsupportedAt};
 ghost use Rattle.tc_stream.specs.Goes as goes;
-ghost use Rattle.tc_stream.specs.Scoped.{chains_in};
-ghost use Rattle.tc_stream.specs.Written.{AreWritten};
-ghost use Rattle.tc_stream.specs.XmlTextTags.{TagFormAt, WrittenElement, written_length};
-ghost use Rattle.tc_stream.specs.declared.tags.TheConstants.{LONGEST_TAG};
+ghost use Rattle.tc_tags.specs.Scoped.{chains_in};
+ghost use Rattle.tc_tags.specs.Written.{AreWritten};
+ghost use Rattle.tc_tags.specs.XmlTextTags.{TagFormAt, WrittenElement, written_length};
+ghost use Rattle.tc_tags.specs.declared.tags.TheConstants.{LONGEST_TAG};
 
-use crate::names::{Span, WrittenName};
-use crate::rooms::Rooms;
-use crate::tags::{Form, NoForm, form_of};
 use std::alloc::Global;
 use tc_alpha::Alphabet;
 use tc_auto::Auto;
 use tc_base::NoMemory;
 use tc_steps::Validity;
+use tc_tags::{Form, NoForm, Rooms, Span, WrittenName, form_of};
 
 /// How many elements may stand within one another.
 const DEEPEST: usize = 2_000;

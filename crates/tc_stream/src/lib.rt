@@ -2,8 +2,6 @@
 //! schema (RELAX NG). What is kept is bounded, whatever the document is, and all of it is taken before the first byte.
 #![tactic(auto)]
 
-mod attributes;
-mod chains;
 mod characters;
 mod characters_reading;
 mod cuts;
@@ -15,7 +13,6 @@ mod faults;
 mod items;
 mod laws;
 mod marking;
-mod names;
 mod numbers;
 mod parts;
 mod phases;
@@ -23,14 +20,10 @@ mod pieces;
 mod reader;
 mod reading;
 mod references;
-mod rooms;
-mod scopes;
 mod stopping;
 mod stream;
 mod tag_ends;
 mod tag_reading;
-mod tags;
-mod values;
 mod words;
 
 pub use faults::StreamFault;

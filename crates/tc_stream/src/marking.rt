@@ -7,14 +7,13 @@ ghost use Rattle.tc_stream.specs.Stands.{IsReading};
 
 use crate::doctypes::Doctype;
 use crate::faults::StreamFault;
-use crate::names::Room;
 use crate::parts::{Mark, Part};
 use crate::phases::Phase;
 use crate::reader::Reader;
 use crate::reading::malformed;
-use crate::values::push_char;
 use tc_base::Place;
 use tc_scan::{is_ncname_char, is_ncname_start};
+use tc_tags::{Room, push_char};
 
 /// Keeps the first characters of a tag alone: its `<` and this one.
 fn keep_first(tag: &mut Room, next: char)

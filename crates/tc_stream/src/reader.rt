@@ -3,14 +3,13 @@ ghost use Rattle.std.specs.Prelude.{◌≡◌, ◌≤◌, IsTrue};
 ghost use Rattle.tc_stream.specs.Counted.{is_counted};
 
 use crate::elements::Elements;
-use crate::names::Room;
 use crate::parts::Part;
 use crate::phases::Phase;
-use crate::tags::LONGEST_TAG;
 use std::alloc::Global;
 use tc_alpha::Alphabet;
 use tc_auto::Auto;
 use tc_base::NoMemory;
+use tc_tags::{LONGEST_TAG, Room};
 
 /// What is kept of a text of characters that comes in pieces: the elements that are open, one tag, which part of a
 /// document is read, what has begun and hasn't ended, and where it begins.

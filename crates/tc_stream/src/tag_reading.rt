@@ -5,14 +5,14 @@ ghost use Rattle.tc_model.specs.Names.{IsChars};
 ghost use Rattle.tc_model.specs.XmlTextBytes.{Lacks};
 ghost use Rattle.tc_stream.specs.Cuts.{BeginsNoChar};
 ghost use Rattle.tc_stream.specs.Faults.{IsFaultOf, IsFaultOfFront};
-ghost use Rattle.tc_stream.specs.Forms.{FormRead};
+ghost use Rattle.tc_tags.specs.Forms.{FormRead};
 ghost use Rattle.tc_stream.specs.Keeps.{IsReady};
 ghost use Rattle.tc_stream.specs.Reading.{FaultsOn, ReadsOn};
 ghost use Rattle.tc_stream.specs.Scans.{ended, quoted, tag_scan};
 ghost use Rattle.tc_stream.specs.Stands.{IsReading, ReadsTo};
 ghost use Rattle.tc_stream.specs.TagStands.{IsEndTag, IsStartTag, StandsBehind, TagStands, TagTold, TellsFault, TellsNoElement, TellsScanned};
-ghost use Rattle.tc_stream.specs.Written.{AreWritten};
-ghost use Rattle.tc_stream.specs.XmlTextTags.{WrittenElement};
+ghost use Rattle.tc_tags.specs.Written.{AreWritten};
+ghost use Rattle.tc_tags.specs.XmlTextTags.{WrittenElement};
 
 use crate::elements::{Elements, NoElement};
 use crate::faults::StreamFault;
@@ -20,9 +20,9 @@ use crate::parts::Part;
 use crate::phases::Phase;
 use crate::reader::Reader;
 use crate::tag_ends::{TagEnd, end_of_end_tag, end_of_tag};
-use crate::tags::{Form, NoForm, is_end_tag};
 use tc_base::Place;
 use tc_scan::characters;
+use tc_tags::{Form, NoForm, is_end_tag, is_plain_end_tag, text_of};
 
 /// How far a start tag or an empty-element tag goes in some bytes.
 #[derive(Clone, Copy)]
@@ -218,7 +218,7 @@ impl Reader<'_> {
             → length self.old.elements.levels.items < 2000
             → IfErr result (λ e. IsFaultOfFront chars e) }
     {
-        let tag = characters(self.tag.bytes());
+        let tag = text_of(self.tag.bytes());
         start(&mut self.elements, tag, self.begun)?;
         self.leave_tag();
         Ok(())
@@ -299,6 +299,11 @@ impl Reader<'_> {
             → t.ls ≢ []
             → IfErr result (λ e. IsFaultOfFront chars e) }
     {
+        if is_plain_end_tag(self.tag.bytes(), self.elements.name()) {
+            self.elements.end();
+            self.leave_tag();
+            return Ok(());
+        }
         let tag = characters(self.tag.bytes());
         end(&mut self.elements, tag, self.begun)?;
         self.leave_tag();

@@ -1,15 +1,14 @@
 -- What is built piece by piece.
-use Rattle.std.proofs.Common.{◌≡◌, ℕ, List, [], ◌∷◌, ◌++◌, refl, ap, ◌∙◌, sym, subst, map, Bor, take, drop, append_assoc, append-nil, take-append-drop, length, slice_get, Some, arith, ◌-◌, length-drop}
+use Rattle.std.proofs.Common.{◌≡◌, ℕ, List, [], ◌∷◌, ◌++◌, refl, ap, ◌∙◌, sym, map, Bor, take, drop, append_assoc, append-nil, take-append-drop, length, slice_get, Some, arith, ◌-◌, length-drop}
 use Rattle.std.proofs.lemmas.List.{take_all}
-use Rattle.tc_model.specs.Events.{Event, characters, start, end, Takes, nothing, event, events}
-use Rattle.tc_model.specs.Names.{ExpandedName}
+use Rattle.tc_model.specs.Events.{Event, characters, end, Takes, nothing, event, events}
 use Rattle.tc_model.specs.Trees.{Trees, none, text, element, beside}
 use Rattle.tc_model.specs.Views.{name, before, trees}
 use Rattle.tc_model.specs.declared.tree.Name.{Name}
 use Rattle.tc_model.specs.declared.tree.Node.{Node, Elem, Text}
 use Rattle.tc_model.proofs.NormalForm.{beside_none, beside_assoc}
 use Rattle.tc_model.proofs.Views.{before_elem, before_text, before_beside}
-use Rattle.tc_xml.specs.Building.{Level, Building, one_level, end_level, after_event, after_part, after_parts, building_of, building}
+use Rattle.tc_xml.specs.Building.{Level, Building, one_level, after_event, after_part, after_parts, building_of, building}
 use Rattle.tc_xml.specs.declared.building.Part.{Part}
 use Rattle.tc_xml.specs.declared.building.Part.TheVariants.{Done, Open}
 use Rattle.tc_xml.specs.declared.building.TreeBuilder.{TreeBuilder}

@@ -7,12 +7,7 @@ use Rattle.tc_model.specs.Names.{IsNcName, is_ncname_char}
 use Rattle.tc_model.specs.XmlTextNames.{QualifiedName, QNameAt, unprefixed, prefixed}
 use Rattle.tc_xml.specs.Reading.{EndTagAt}
 use Rattle.tc_model.specs.XmlTextBytes.{after_white}
-
--- a byte at which a name ends
-ends_name : (b : ℕ) (rest : List ℕ) → b < 128 → is_ncname_char b ≡ false → (c : ℕ) (r : List ℕ) → b ∷ rest ≡ encode_utf8 c ++ r → IsTrue (is_ncname_char c) → ⊥
-ends_name b rest small is c r e h =
-    let same : c ≡ b = char_from_byte (b ∷ rest) r c e small (omega arith) in
-    true≢false (sym h ∙ (ap is_ncname_char same ∙ is))
+use Rattle.tc_tags.proofs.NameBytes.{ends_name}
 
 name_some : (bs : List ℕ) → IsNcName bs → bs ≢ []
 name_some bs (c, cs, e, h, k) is = omega (arith, ap length e, ap length is, length-append (encode_utf8 c) (encode_utf8_all cs), length-encode c, len_utf8_bounds c)

@@ -8,7 +8,6 @@ pub mod TagLaws
 pub mod TwiceLaws
 pub mod GatherLaws
 pub mod ContentLaws
-pub mod FailedLaws
 pub mod MemoryLaws
 pub mod ItemLaws
 pub mod ElementLaws
@@ -18,6 +17,7 @@ pub mod FaultLaws
 pub mod MalformedLaws
 pub mod StripLaws
 pub mod PlainTagLaws
+pub mod SpelledLaws
 pub mod OpenLaws
 pub mod TakingLaws
 pub mod EndTagLaws

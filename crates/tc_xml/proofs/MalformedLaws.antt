@@ -1,5 +1,5 @@
 -- Where Malformed is said, reading comes to nothing that is refused.
-use Rattle.std.proofs.Common.{◌≡◌, ◌≢◌, inl, inr, ◌⊎◌, ℕ, suc, ◌-◌, true, false, List, [], ◌∷◌, ◌++◌, refl, ap, ◌∙◌, sym, subst, length, arith, codes, IsTrue, IsFalse, Result, Ok, Err, IfErr}
+use Rattle.std.proofs.Common.{◌≡◌, ◌≢◌, ℕ, suc, ◌-◌, true, false, List, ◌∷◌, ◌++◌, refl, ◌∙◌, sym, subst, length, arith, codes, IsTrue, Result, Ok, Err, IfErr}
 use Rattle.tc_base.specs.declared.reasons.Why.{Why}
 use Rattle.tc_model.specs.Names.{ExpandedName}
 use Rattle.tc_model.specs.RawTrees.{Attribute, Bound, RawTrees}
@@ -12,18 +12,19 @@ use Rattle.tc_model.specs.XmlTextScopes.{WrittenAttribute, first_scope}
 use Rattle.tc_model.specs.XmlTextContent.{Piece, AttributesAt, TagAt, ContentAt, ItemAt, reference, ElementAt}
 use Rattle.tc_model.specs.XmlTextRefusals.{Cause, QuotedRefuses, ValueRefuses, past_run, past_reference, xml_space, AttributesRefuse, space, value, past_attribute, TagRefuses, ContentRefuses, child, past_item, ElementRefuses, depth, tag, inside, DeclarationRefuses, version, encoding, DocumentRefuses, subset, element}
 use Rattle.tc_model.specs.XmlTextRefusals as r
-use Rattle.tc_model.proofs.XmlTextPhrases.{same_first, same_others, no_qname, qname_unique, equals_unique, quoted_unique, setting_unique, declaration_unique, misc_unique, doctype_front_unique, doctype_unique}
-use Rattle.tc_model.proofs.XmlTextUnique.{tag_unique, item_unique, no_item_at_end_tag}
-use Rattle.tc_model.proofs.XmlTextRefused.{Begins, as_reference, quoted_no_quoted, not_space, attributes_no_list, tag_no_tag, element_begins, other_no_item, element_no_item, content_no_content, element_no_element, start_same, encoding_no_encoding, declaration_no_declaration, front_same, subset_no_doctype}
+use Rattle.tc_model.proofs.XmlTextPhrases.{same_first, same_others, no_qname, qname_unique, equals_unique, setting_unique, declaration_unique, doctype_front_unique, doctype_unique}
+use Rattle.tc_model.proofs.XmlTextUnique.{tag_unique}
+use Rattle.tc_model.proofs.XmlTextRefused.{Begins, as_reference, attributes_no_list, tag_no_tag, element_begins, content_no_content, element_no_element, start_same, encoding_no_encoding, declaration_no_declaration, front_same, subset_no_doctype}
 use Rattle.tc_xml.specs.declared.faults.Stop.{Stop}
 use Rattle.tc_xml.specs.declared.faults.Stop.TheVariants.{Malformed, Unsupported, TooDeep, NoMemory}
-use Rattle.tc_xml.specs.Reading.{AttributeAt, BodyRefuses, LacksItem}
+use Rattle.tc_xml.specs.Reading.{BodyRefuses, LacksItem}
 use Rattle.tc_xml.specs.Refusals.{Refuses, RefusesWithin, OnMalformed}
 use Rattle.tc_xml.specs.Tags.{lacks_space, Breaks}
-use Rattle.tc_xml.specs.Values as pieces
-use Rattle.tc_xml.specs.Values.{PieceAt}
-use Rattle.tc_xml.proofs.PastLaws.{PastName, in_value, behind_value, past_name}
-use Rattle.tc_xml.proofs.ContentLaws.{reference_loosened, quoted_loosened, tag_loosened, item_loosened}
+use Rattle.tc_tags.specs.Values as pieces
+use Rattle.tc_tags.specs.Values.{PieceAt}
+use Rattle.tc_xml.proofs.ContentLaws.{tag_loosened, item_loosened}
+use Rattle.tc_tags.proofs.FormLaws.{past_name}
+use Rattle.tc_tags.proofs.TagLaws.{quoted_loosened, reference_loosened}
 
 -- from what else is said there
 
@@ -68,73 +69,13 @@ no_piece_refused h at (r.entity o) = h _ _ (pieces.reference (as_reference o))
 no_piece_refused h at (past_run a k) = h _ _ (pieces.plain a)
 no_piece_refused h at (past_reference a k) = h _ _ (pieces.reference (reference_loosened a))
 
-pub no_quoted_refused : (q : ℕ) (text start rest : List ℕ) → text ≡ q ∷ start → ((at : List ℕ) → ValueRefuses q start at → ValueRefuses q rest at)
-    → ((piece after : List ℕ) → PieceAt true q rest piece after → ⊥) → (at : List ℕ) → QuotedRefuses text at → ⊥
-no_quoted_refused q text start rest e back h at a =
-    let same = sym a.opens ∙ e in
-    let there : ValueRefuses q start at = subst (λ z. ValueRefuses z start at) (same_first same) (subst (λ z. ValueRefuses a.quote z at) (same_others same) a.refuses) in
-    no_piece_refused h at (back at there)
-
-pub no_quote_refused : (text : List ℕ) → ((q : ℕ) (rest : List ℕ) → IsQuote q → text ≡ q ∷ rest → ⊥) → (at : List ℕ) → QuotedRefuses text at → ⊥
-no_quote_refused text h at a = h a.quote a.rest a.is_quote a.opens
-
--- attributes
-
-pub refused_white : {bs at : List ℕ} {why : Why} → AttributesRefuse bs why at → BeginsWithWhite bs
-refused_white (space w n) = w
-refused_white (value w n h e q) = w
-refused_white (past_attribute w n h e q l) = w
-
-record Named (bs : List ℕ) : Type 0 where
-  name : QualifiedName
-  past_name : List ℕ
-  names : QNameAt (after_white bs) name past_name
-
-named : {bs at : List ℕ} {why : Why} → AttributesRefuse bs why at → Named bs
-named (space {past_name = p} w n) = record { name = xml_space; past_name = p; names = n }
-named (value {past_name = p} {name = m} w n h e q) = record { name = m; past_name = p; names = n }
-named (past_attribute {past_name = p} {name = m} w n h e q l) = record { name = m; past_name = p; names = n }
-
-pub no_name_refused : (text start : List ℕ) → start ≡ after_white text → ((n : QualifiedName) (after : List ℕ) → QNameAt start n after → ⊥) → (why : Why) (at : List ℕ) → AttributesRefuse text why at → ⊥
-no_name_refused text start e h why at a = let n = named a in h n.name n.past_name (subst (λ w. QNameAt w n.name n.past_name) (sym e) n.names)
-
-pub no_equals_refused : (text start behind : List ℕ) (name : QualifiedName) → start ≡ after_white text → QNameAt start name behind → false ≡ same_written name xml_space
-    → ((after : List ℕ) → EqualsAt behind after → ⊥) → (why : Why) (at : List ℕ) → AttributesRefuse text why at → ⊥
-no_equals_refused text start behind name e q h k why at a = by (past_name text start behind name e q h why at a)
-  where
-    by : PastName behind why at → ⊥
-    by (in_value {start = s} f v) = k s f
-    by (behind_value {start = s} f v l) = k s f
-
-pub no_value_refused : (text start behind equals : List ℕ) (name : QualifiedName) → start ≡ after_white text → QNameAt start name behind → false ≡ same_written name xml_space
-    → EqualsAt behind equals → ((v after : List ℕ) → QuotedAt true equals v after → ⊥) → ((at : List ℕ) → QuotedRefuses equals at → ⊥) → (why : Why) (at : List ℕ) → AttributesRefuse text why at → ⊥
-no_value_refused text start behind equals name e q h f g k why at a = by (past_name text start behind name e q h why at a)
-  where
-    by : PastName behind why at → ⊥
-    by (in_value j v) = k at (subst (λ z. QuotedRefuses z at) (equals_unique j f) v)
-    by (behind_value {v = w} {rest = rest} j v l) = g w rest (quoted_loosened (subst (λ z. QuotedAt false z w rest) (equals_unique j f) v))
-
 -- tags
-
-tag_attributes : (text start behind : List ℕ) (written : QualifiedName) → text ≡ 0x3C ∷ start → QNameAt start written behind → (why : Why) (at : List ℕ) → TagRefuses text why at
-    → AttributesRefuse behind why at
-tag_attributes text start behind written e q why at a =
-    let names = qname_unique (subst (λ z. QNameAt z a.written a.past_name) (same_others (sym a.opens ∙ e)) a.names) q in
-    subst (λ z. AttributesRefuse z why at) names.1 a.attributes
 
 pub no_opening_refused : (text : List ℕ) → ((rest : List ℕ) → text ≡ 0x3C ∷ rest → ⊥) → (why : Why) (at : List ℕ) → TagRefuses text why at → ⊥
 no_opening_refused text h why at a = h a.rest a.opens
 
 pub no_tag_name_refused : (text start : List ℕ) → text ≡ 0x3C ∷ start → ((n : QualifiedName) (after : List ℕ) → QNameAt start n after → ⊥) → (why : Why) (at : List ℕ) → TagRefuses text why at → ⊥
 no_tag_name_refused text start e h why at a = h a.written a.past_name (subst (λ z. QNameAt z a.written a.past_name) (same_others (sym a.opens ∙ e)) a.names)
-
-pub no_list_refused : (text start behind : List ℕ) (written : QualifiedName) → text ≡ 0x3C ∷ start → QNameAt start written behind
-    → ((why : Why) (at : List ℕ) → AttributesRefuse behind why at → ⊥) → (why : Why) (at : List ℕ) → TagRefuses text why at → ⊥
-no_list_refused text start behind written e q h why at a = h why at (tag_attributes text start behind written e q why at a)
-
-pub read_list_not_refused : (total : ℕ) (text start behind rest : List ℕ) (written : QualifiedName) (list : List WrittenAttribute) → text ≡ 0x3C ∷ start → QNameAt start written behind
-    → AttributesAt false total behind list rest → IsTrue (lacks_space list) → (why : Why) (at : List ℕ) → TagRefuses text why at → ⊥
-read_list_not_refused total text start behind rest written list e q l s why at a = attributes_no_list (tag_attributes text start behind written e q why at a) l s
 
 -- content
 

@@ -10,7 +10,7 @@ use Rattle.tc_scan.specs.Views.{written_name}
 use Rattle.tc_xml.specs.Bindings.{unless_empty, shown, now_bound, hidden, Tells, Declares, TakesBack}
 use Rattle.tc_xml.specs.Taking.{Started, AreOpen}
 use Rattle.tc_xml.specs.declared.bindings.Bindings.{Bindings}
-use Rattle.tc_xml.specs.declared.taking.Open.{Open}
+use Rattle.tc_xml.specs.declared.levels.Open.{Open}
 use Rattle.tc_xml.proofs.BindingLaws.{shown_appended, tells_alike, back_before}
 
 -- bindings that show the same serve as well

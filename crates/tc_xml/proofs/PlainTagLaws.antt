@@ -21,8 +21,9 @@ use Rattle.tc_xml.specs.PlainTags.{as_written, as_expanded, expanded_name, IsLaw
 use Rattle.tc_xml.specs.Tags.{is_declaring, declared_prefix}
 use Rattle.tc_xml.specs.declared.bindings.Bindings.{Bindings}
 use Rattle.tc_xml.proofs.BindingLaws.{declares_none, declares_one, declares_both, tells_bound}
-use Rattle.tc_xml.proofs.ContentLaws.{all_append, from_false, is_name, qname_within, attributes_within}
+use Rattle.tc_xml.proofs.ContentLaws.{attributes_within}
 use Rattle.tc_xml.proofs.TagLaws.{distinct_expanded}
+use Rattle.tc_tags.proofs.FormLaws.{all_append, from_false, is_name, qname_within}
 
 -- values
 

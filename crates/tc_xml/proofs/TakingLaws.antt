@@ -17,19 +17,20 @@ use Rattle.tc_model.specs.Names.{IsChars}
 use Rattle.tc_model.proofs.NormalForm.{dropped_empty, joined_twice}
 use Rattle.std.specs.Prelude.{zero, reverse, Option, None, Some, MatchOption, IfSome}
 use Rattle.std.proofs.lemmas.List.{nil_from_length}
-use Rattle.tc_xml.specs.declared.taking.Open.{Open}
-use Rattle.tc_xml.proofs.ContentLaws.{qname_within, white_within}
+use Rattle.tc_xml.specs.declared.levels.Open.{Open}
 use Rattle.tc_xml.specs.Reading.{EndTagAt, SmallItemAt}
 use Rattle.tc_xml.specs.Bindings.{Tells, TakesBack, now_bound, hidden}
 use Rattle.tc_xml.specs.PlainTags.{TagRead}
+use Rattle.tc_xml.specs.Spelled.{AreRight}
 use Rattle.tc_xml.specs.declared.bindings.Bindings.{Bindings}
 use Rattle.tc_xml.specs.declared.plain_tags.Tag.{Tag}
-use Rattle.tc_xml.specs.declared.taking.Levels.{Levels}
+use Rattle.tc_xml.specs.declared.levels.Levels.{Levels}
 use Rattle.tc_xml.proofs.BindingLaws.{tells_first}
 use Rattle.tc_xml.proofs.OpenLaws.{open_one, open_less, open_same, none_open, some_open, last_open, from_last_open}
 use Rattle.tc_model.specs.Views.{name}
 use Rattle.tc_scan.specs.Views.{written_name}
 use Rattle.tc_xml.specs.Taking.{waiting, Took, Started, Inside, Standing, before_root, within, Finished, After, AreOpen, IsWithin, StandsAt, StandsAfter}
+use Rattle.tc_tags.proofs.FormLaws.{qname_within, white_within}
 
 pub takes_both : {S : Type 0} {one : S → Event → S → Type 0} {a b d : S} {es fs : List Event} → Takes one a es b → Takes one b fs d → Takes one a (es ++ fs) d
 takes_both nothing k = k
@@ -216,11 +217,11 @@ step_within {levels = levels} some a k s = record {
 
 -- an element without content was read
 pub passes : {S : Type 0} (one : S → Event → S → Type 0) (total deepest count : ℕ) (root text after waits run : List ℕ) (begun mid opened closed : S) (levels between new : Levels) (tag : Tag)
-    → StandsAt one total deepest root begun levels text mid waits → 0 < levels.depth → TagRead total levels.bindings text tag between.bindings → tag.rest.now ≡ codes "/>" ++ after
+    → StandsAt one total deepest root begun levels text mid waits → 0 < levels.depth → TagRead total levels.bindings text tag between.bindings → AreRight (now_bound new.bindings) new.spelled → tag.rest.now ≡ codes "/>" ++ after
     → count ≡ length (hidden levels.bindings) → TakesBack between.bindings count new.bindings → new.open.items ≡ levels.open.items → new.depth ≡ levels.depth
     → Takes one mid (waiting waits none ++ start (name tag.name) ∷ []) opened → one opened end closed → run ≡ []
     → StandsAfter one total deepest root begun new after closed run
-passes one total deepest count root before after waits run begun mid opened closed levels between new tag s some r e counts k same_opens same_depth f h empty =
+passes one total deepest count root before after waits run begun mid opened closed levels between new tag s some r right e counts k same_opens same_depth f h empty =
     let (inner, x, told, a) = r.reads s.scope s.shows.tells in
     let back : TakesBack between.bindings (length (hidden levels.bindings)) new.bindings = subst (λ n. TakesBack between.bindings n new.bindings) counts k in
     let (opens, tells) = open_same {old = levels.bindings} {mid = between.bindings} {new = new.bindings} (reverse levels.open.items) s.started s.scope r.declares back s.shows.opens s.shows.tells in
@@ -230,6 +231,7 @@ passes one total deepest count root before after waits run begun mid opened clos
       shows = record {
         opens = subst (λ os. AreOpen (hidden new.bindings) (now_bound new.bindings) (reverse os) s.started) (sym same_opens) opens;
         tells = tells;
+        right = right;
       };
       stands =
           subst (λ d. After one total deepest root begun s.started s.scope d after closed run) (sym same_depth)
@@ -239,12 +241,12 @@ passes one total deepest count root before after waits run begun mid opened clos
 
 -- an element has started, whose content comes
 pub goes_into : {S : Type 0} (one : S → Event → S → Type 0) (total deepest count : ℕ) (root text inside waits run : List ℕ) (begun mid opened : S) (levels between new : Levels) (tag : Tag)
-    → StandsAt one total deepest root begun levels text mid waits → TagRead total levels.bindings text tag between.bindings
+    → StandsAt one total deepest root begun levels text mid waits → TagRead total levels.bindings text tag between.bindings → AreRight (now_bound between.bindings) between.spelled
     → between.open.items ≡ levels.open.items → between.depth ≡ levels.depth → count ≡ length (hidden levels.bindings)
     → IsWithin between (written_name tag.written) count new → tag.rest.now ≡ 0x3E ∷ inside
     → Takes one mid (waiting waits none ++ start (name tag.name) ∷ []) opened → run ≡ []
     → StandsAfter one total deepest root begun new inside opened run
-goes_into one total deepest count root before inside waits run begun mid opened levels between new tag s r same_opens same_depth counts k e f empty =
+goes_into one total deepest count root before inside waits run begun mid opened levels between new tag s r right same_opens same_depth counts k e f empty =
     let (inner, x, told, a) = r.reads s.scope s.shows.tells in
     let w = written_name tag.written in
     let o : Started = record { written = w; outer = s.scope; depth = levels.depth } in
@@ -258,6 +260,7 @@ goes_into one total deepest count root before inside waits run begun mid opened 
             subst (λ z. AreOpen (hidden z) (now_bound z) (reverse new.open.items) (o ∷ s.started)) (sym k.bindings)
             (from_last_open (hidden between.bindings) (now_bound between.bindings) new.open.items levels.open.items k.last (o ∷ s.started) (k.opens ∙ ap (λ z. z ++ k.last ∷ []) same_opens) opens);
         tells = subst (λ z. Tells (now_bound z) inner) (sym k.bindings) told;
+        right = subst (λ z. AreRight (now_bound z) new.spelled) (sym k.bindings) (subst (AreRight (now_bound between.bindings)) (sym k.spelled) right);
       };
       stands =
           go_into one total deepest new.depth root before inside waits run begun mid opened s.started s.scope inner w (name tag.name) x levels.depth s.stands (sym same_depth ∙ k.deeper)
@@ -296,13 +299,14 @@ open_named one total deepest root at run begun old levels front o s e = by s.sta
 
 -- before the root element
 pub begin_at : {S : Type 0} (one : S → Event → S → Type 0) (total deepest : ℕ) (root run : List ℕ) (begun : S) (levels : Levels) → levels.open.items ≡ [] → now_bound levels.bindings ≡ first_scope → levels.depth ≡ deepest
-    → run ≡ [] → StandsAt one total deepest root begun levels root begun run
-begin_at one total deepest root run begun levels e f g h = record {
+    → AreRight (now_bound levels.bindings) levels.spelled → run ≡ [] → StandsAt one total deepest root begun levels root begun run
+begin_at one total deepest root run begun levels e f g right h = record {
   started = [];
   scope = first_scope;
   shows = record {
     opens = subst (λ os. AreOpen (hidden levels.bindings) (now_bound levels.bindings) (reverse os) []) (sym e) tt;
     tells = tells_first (now_bound levels.bindings) f;
+    right = right;
   };
   stands = subst (λ d. Standing one total deepest root begun [] first_scope d root begun run) (sym g) (subst (λ r. Standing one total deepest root begun [] first_scope deepest root begun r) (sym h) before_root);
 }

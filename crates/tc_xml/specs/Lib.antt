@@ -1,11 +1,11 @@
 pub mod Refusals
 pub mod Faults
-pub mod Values
 pub mod Bounds
 pub mod Pairs
 pub mod Tags
 pub mod Views
 pub mod Reading
+pub mod Spelled
 pub mod Taking
 pub mod Building
 pub mod Bindings

@@ -9,17 +9,8 @@ use Rattle.tc_model.specs.XmlTextContent.{Piece, piece_before, ContentAt, ItemAt
 use Rattle.tc_model.specs.XmlTextRefusals.{Cause, ContentRefuses}
 use Rattle.tc_xml.specs.declared.content.Gathered.{Gathered}
 use Rattle.tc_xml.specs.Views.{gathered_before}
-
--- one attribute after white space, which is not `xml:space`
-pub record AttributeAt (others : Bool) (total : ℕ) (bs : List ℕ) (a : WrittenAttribute) (after : List ℕ) : Type 0 where
-  pub past_name : List ℕ
-  pub start : List ℕ
-  pub white : BeginsWithWhite bs
-  pub names : QNameAt (after_white bs) a.name past_name
-  pub equals : EqualsAt past_name start
-  pub quoted : QuotedAt others start a.value after
-  pub stands : a.place ≡ place_of total (after_white bs)
-  pub no_space : IsFalse (is_xml_space a)
+pub use Rattle.tc_tags.specs.Forms.{AttributeAt}
+pub use Rattle.tc_tags.specs.XmlTextTags.{EndTagAt}
 
 -- a `<` and a name
 pub record OpensElement (bs : List ℕ) : Type 0 where
@@ -28,14 +19,6 @@ pub record OpensElement (bs : List ℕ) : Type 0 where
   pub past_name : List ℕ
   pub opens : bs ≡ 0x3C ∷ rest
   pub names : QNameAt rest name past_name
-
--- the end tag of an element with this name
-pub record EndTagAt (name : QualifiedName) (bs after : List ℕ) : Type 0 where
-  pub rest : List ℕ
-  pub past_name : List ℕ
-  pub opens : bs ≡ codes "</" ++ rest
-  pub names : QNameAt rest name past_name
-  pub closes : after_white past_name ≡ 0x3E ∷ after
 
 -- what follows a tag up to where it ends: the mark of an empty element, or content and an end tag with this name
 pub data BodyAt (others : Bool) (total : ℕ) (scope : List Bound) (deepest : ℕ) (name : QualifiedName) : List ℕ → RawTrees → List ℕ → Type 0 where

@@ -10,6 +10,7 @@ use Rattle.tc_xml.specs.declared.faults.Stop.{Stop}
 use Rattle.tc_xml.specs.declared.faults.Stop.TheVariants.{Malformed, Unsupported, TooDeep, NoMemory}
 use Rattle.tc_xml.specs.declared.scopes.Scope.{Scope}
 use Rattle.tc_xml.specs.declared.tags.Written.{Written}
+pub use Rattle.tc_tags.specs.Forms.{lacks_space}
 
 abbrev pub written : Written → WrittenAttribute
 written a = record { name = written_name a.name; value = a.value.now; place = place a.place }
@@ -17,9 +18,6 @@ written a = record { name = written_name a.name; value = a.value.now; place = pl
 -- the prefixes in scope
 abbrev pub in_scope : Scope → List Bound
 in_scope s = map bound s.bindings.now
-
-abbrev pub lacks_space : List WrittenAttribute → Bool
-lacks_space attributes = list_all (λ a. not (is_xml_space a)) attributes
 
 -- Malformed is said only where `broken` holds, and nothing else is said but that memory was refused
 abbrev pub Breaks : Stop → Type 0 → Type 0

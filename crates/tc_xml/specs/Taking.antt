@@ -2,7 +2,7 @@
 use Rattle.std.specs.Prelude.{◌≡◌, ◌≤◌, ℕ, suc, false, List, [], ◌∷◌, ◌++◌, map, length, take, drop, reverse}
 use Rattle.tc_model.specs.Events.{Event, end, Takes, events}
 use Rattle.tc_model.specs.Names.{ExpandedName}
-use Rattle.tc_model.specs.RawTrees.{RawTrees, none, Attribute, Bound}
+use Rattle.tc_model.specs.RawTrees.{RawTrees, Attribute, Bound}
 use Rattle.tc_model.specs.Stripped.{bare}
 use Rattle.tc_model.specs.Trees.{joined_to, joined, dropped}
 use Rattle.tc_model.specs.Views.{bound}
@@ -13,8 +13,9 @@ use Rattle.tc_model.specs.XmlTextContent.{Piece, whole, piece_before, TagAt, Con
 use Rattle.tc_model.specs.XmlTextScopes.{first_scope}
 use Rattle.tc_scan.specs.Views.{written_name}
 use Rattle.tc_xml.specs.Bindings.{Tells, now_bound, hidden}
-use Rattle.tc_xml.specs.declared.taking.Open.{Open}
-use Rattle.tc_xml.specs.declared.taking.Levels.{Levels}
+use Rattle.tc_xml.specs.Spelled.{AreRight}
+use Rattle.tc_xml.specs.declared.levels.Open.{Open}
+use Rattle.tc_xml.specs.declared.levels.Levels.{Levels}
 
 -- what is to be handed on of a run before trees
 abbrev pub waiting : List ℕ → RawTrees → List Event
@@ -41,6 +42,7 @@ pub record IsWithin (old : Levels) (written : QualifiedName) (count : ℕ) (new 
   pub deep : last.depth ≡ old.depth
   pub deeper : old.depth ≡ suc new.depth
   pub bindings : new.bindings ≡ old.bindings
+  pub spelled : new.spelled ≡ old.spelled
 
 -- what is kept of an element that has started is true of the element, where declarations hid these and this is bound
 pub record IsOpen (hid : List Binding) (bounds : List Bound) (o : Open) (e : Started) : Type 0 where
@@ -60,6 +62,7 @@ AreOpen hid bounds (o ∷ opens) (e ∷ es) = IsOpen hid bounds o e × AreOpen (
 pub record Shows (levels : Levels) (es : List Started) (scope : List Bound) : Type 0 where
   pub opens : AreOpen (hidden levels.bindings) (now_bound levels.bindings) (reverse levels.open.items) es
   pub tells : Tells (now_bound levels.bindings) scope
+  pub right : AreRight (now_bound levels.bindings) levels.spelled
 
 -- The content of an element that has started, from its tag to what is left of it. Over the whole element, with any further content, what was to be
 -- handed on is what was handed on, the run with that content, the end, and what follows.

@@ -5,7 +5,7 @@ ghost use Rattle.tc_model.specs.XmlTextBytes as xml_bytes;
 ghost use Rattle.tc_model.specs.XmlTextReferences as xml;
 ghost use Rattle.tc_xml.specs.Refusals.{Refuses, UnsupportedAt, OnMalformed};
 ghost use Rattle.tc_model.specs.XmlTextRefusals as refusals;
-ghost use Rattle.tc_xml.specs.Values.{PieceAt, past_line_end};
+ghost use Rattle.tc_tags.specs.Values.{PieceAt, past_line_end};
 
 use crate::faults::Stop;
 use bumpalo::Bump;

@@ -11,26 +11,25 @@ ghost use Rattle.tc_model.specs.XmlTextMisc as misc;
 ghost use Rattle.tc_model.specs.XmlTextBytes as bytes;
 ghost use Rattle.tc_model.specs.XmlTextContent as xml;
 ghost use Rattle.tc_model.specs.XmlTextNames.{QNameAt};
-ghost use Rattle.tc_model.specs.XmlTextScopes.{first_scope};
 ghost use Rattle.tc_scan.specs.Views.{written_name};
 ghost use Rattle.tc_xml.specs.Bindings.{TakesBack, now_bound};
-ghost use Rattle.tc_xml.specs.PlainTags.{TagRead};
 ghost use Rattle.tc_xml.specs.Reading.{EndTagAt, SmallItemAt};
+ghost use Rattle.tc_xml.specs.Spelled.{AreRight};
 ghost use Rattle.tc_xml.specs.Taking.{Took, StandsAt, StandsAfter, Finished, IsWithin, waiting};
 
-use crate::bindings::Bindings;
 use crate::content::{after_end_tag, begins, character_data};
-use crate::document::{DEEPEST, before_root};
+use crate::document::before_root;
+use crate::levels::{Levels, Open};
 use crate::misc::{after_comment, after_instruction, after_misc, cdata};
-use crate::plain_tags::{AttributeNames, Tag, read_tag};
 use crate::references::{push_lines, reference};
+use crate::spelled::after_name;
 use bumpalo::Bump;
 use memchr::memchr;
 use std::mem;
 use tc_base::NoMemory;
 use tc_model::normal::{Run, extended, text_of};
 use tc_model::{Name, TakesTrees, is_white_space_only};
-use tc_scan::{QualifiedName, after_byte, after_mark, characters};
+use tc_scan::{QualifiedName, after_byte, characters};
 
 /// What takes a document's trees, and the run of characters that isn't handed on yet.
 #[derive(Drop)]
@@ -38,56 +37,6 @@ struct Reader<'b, T> {
     arena: &'b Bump,
     taker: T,
     run: Run<'b>,
-}
-
-/// An element that has started: its name as it is written, how many declarations are in scope around it, and how
-/// many elements may stand within one another from it on.
-#[derive(Clone, Copy)]
-struct Open<'b> {
-    written: QualifiedName<'b>,
-    count: usize,
-    depth: u32,
-}
-
-/// The elements that have started, the innermost one last, with what is bound there, and how many elements may
-/// stand within one another there; and room for the names in a tag.
-#[derive(Drop)]
-struct Levels<'b> {
-    open: Vec<Open<'b>, &'b Bump>,
-    bindings: Bindings<'b>,
-    names: AttributeNames<'b>,
-    depth: u32,
-}
-
-impl<'b> Levels<'b> {
-    /// No element has started yet.
-    fn first(arena: &'b Bump) -> Option<Levels<'b>>
-        ensures opens { IfSome result (λ levels. levels.open.items ≡ []) }
-        ensures bound { IfSome result (λ levels. now_bound levels.bindings ≡ first_scope) }
-        ensures deepest { IfSome result (λ levels. levels.depth ≡ deepest_element) }
-    {
-        let bindings = Bindings::first(arena)?;
-        Some(Levels {
-            open: Vec::new(arena),
-            bindings,
-            names: AttributeNames::new(arena),
-            depth: DEEPEST,
-        })
-    }
-
-    /// Reads the tag at the front, where an element may start, up to where it ends, and binds what it declares.
-    fn read_tag(&mut self, arena: &'b Bump, text: &'b str) -> Option<Tag<'b>>
-        ensures deep { IfSome result (λ _. 0 < self.old.depth) }
-        ensures reads { IfSome result (λ tag. (total : ℕ)
-            → TagRead total self.old.bindings text.now tag self.new.bindings) }
-        ensures opens { self.new.open.items ≡ self.old.open.items }
-        ensures depth { self.new.depth ≡ self.old.depth }
-    {
-        if self.depth == 0 {
-            return None;
-        }
-        read_tag(arena, &mut self.bindings, &mut self.names, text)
-    }
 }
 
 /// The characters of a run, to which more may be added.
@@ -225,11 +174,13 @@ fn leave<'b, T: TakesTrees<'b>>(
     ensures run { reader.new.run ≡ reader.old.run }
     ensures bindings { IfSome result
         (λ _. TakesBack levels.old.bindings count levels.new.bindings) }
+    ensures right { AreRight (now_bound levels.old.bindings) levels.old.spelled → IfSome result
+        (λ _. AreRight (now_bound levels.new.bindings) levels.new.spelled) }
     ensures opens { levels.new.open.items ≡ levels.old.open.items }
     ensures depth { levels.new.depth ≡ levels.old.depth }
 {
     reader.taker.end()?;
-    levels.bindings.take_back(count)
+    levels.take_back(count)
 }
 
 /// What follows the end of an empty-element tag.
@@ -282,20 +233,6 @@ fn enter<'b>(levels: &mut Levels<'b>, written: QualifiedName<'b>, count: usize) 
     };
     levels.depth -= 1;
     Some(())
-}
-
-/// What follows the bytes of a name.
-fn after_name<'t>(text: &'t str, name: &QualifiedName<'_>) -> Option<&'t str>
-    ensures names { IfSome result (λ r. (bs past after : List ℕ)
-        → QNameAt bs (written_name name.now) past → r.now ≡ 0x3E ∷ after
-        → QNameAt text.now (written_name name.now) r.now) }
-    ensures within { IfSome result (λ r. length r.now ≤ length text.now) }
-{
-    if name.prefix.is_empty() {
-        return after_mark(text, name.local);
-    }
-    let local = after_byte(after_mark(text, name.prefix)?, b':')?;
-    after_mark(local, name.local)
 }
 
 /// What follows the end tag that is the bytes of a name and no white space.

@@ -1,5 +1,5 @@
 use Rattle.std.proofs.Common.{◌≡◌, ◌∙◌, [], ap, bytes_eq}
-use Rattle.tc_stream.specs.Spans.{at_span}
+use Rattle.tc_tags.specs.Spans.{at_span}
 use Rattle.tc_stream.proofs.EnterLaws.{long_plain, long_prefixed}
 use Rattle.tc_stream.proofs.elements.whole.Goals as goal
 

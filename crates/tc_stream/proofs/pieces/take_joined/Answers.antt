@@ -3,7 +3,7 @@ use Rattle.tc_stream.specs.Faults.{IsFaultOfFront}
 use Rattle.tc_stream.proofs.PieceLaws.{read_text}
 use Rattle.tc_stream.proofs.StandsLaws.{front_more}
 use Rattle.tc_stream.proofs.TagReads.{failed}
-use Rattle.tc_stream.proofs.FailedLaws.{failed_ok}
+use Rattle.tc_tags.proofs.FailedLaws.{failed_ok}
 use Rattle.tc_stream.proofs.pieces.take_joined.Goals as goal
 
 pub returns-in_err-read_all-clause-within : goal.returns-in_err-read_all-clause-within

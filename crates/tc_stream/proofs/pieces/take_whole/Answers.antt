@@ -5,7 +5,7 @@ use Rattle.tc_stream.specs.Faults.{IsFaultOfFront}
 use Rattle.tc_stream.specs.Pieces.{ReadsPiece}
 use Rattle.tc_stream.proofs.PieceLaws.{front_split, front_within, no_char_behind, read_text, rest_low, text_fault}
 use Rattle.tc_stream.proofs.TagReads.{failed}
-use Rattle.tc_stream.proofs.FailedLaws.{failed_ok}
+use Rattle.tc_tags.proofs.FailedLaws.{failed_ok}
 use Rattle.tc_stream.proofs.pieces.take_whole.Goals as goal
 
 pub overflow_cast-end : goal.overflow_cast-end

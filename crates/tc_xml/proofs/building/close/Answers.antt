@@ -1,6 +1,6 @@
 use Rattle.std.proofs.Common.{◌≡◌, [], ◌∷◌, ◌++◌, ap, ◌∙◌, subst, map, drop}
 use Rattle.tc_xml.specs.declared.building.Part.TheVariants.{Done}
-use Rattle.tc_xml.proofs.FailedLaws.{failed_some}
+use Rattle.tc_tags.proofs.FailedLaws.{failed_some}
 use Rattle.tc_xml.proofs.BuildingLaws.{level_closed, tail_is}
 use Rattle.tc_xml.proofs.building.close.Goals as goal
 

@@ -9,7 +9,7 @@ use Rattle.tc_xml.specs.Reading.{BodyAt, empty, filled, BodyRefuses, AddsPiece}
 use Rattle.tc_xml.specs.Refusals.{RefusesWithin, RefusedAt, OnMalformed}
 use Rattle.tc_xml.specs.Views.{gathered_before}
 use Rattle.tc_xml.specs.Tags.{in_scope}
-use Rattle.tc_xml.proofs.FailedLaws.{failed_ok}
+use Rattle.tc_tags.proofs.FailedLaws.{failed_ok}
 use Rattle.tc_xml.proofs.ContentLaws.{failed, item_within, item_loosened}
 use Rattle.tc_xml.proofs.MalformedLaws.{of_malformed, of_refuses, of_breaks, of_both, of_both_within, err_both, no_characters_refused, no_bang_refused, no_question_refused, no_child_refused, no_tag_refused, no_body_refused, no_inside_refused, no_closing_refused}
 use Rattle.tc_xml.proofs.ItemLaws.{lacks_instruction, is_child}

@@ -7,10 +7,11 @@ use Rattle.tc_scan.specs.Views.{written_name}
 use Rattle.tc_xml.specs.Refusals.{Refuses, UnsupportedAt, OnMalformed}
 use Rattle.tc_xml.specs.Reading.{AttributeAt}
 use Rattle.tc_base.specs.declared.reasons.Why.{Why}
-use Rattle.tc_xml.proofs.FailedLaws.{failed_ok}
-use Rattle.tc_xml.proofs.MalformedLaws.{of_both, no_equals_refused, no_value_refused}
-use Rattle.tc_xml.proofs.ContentLaws.{not_xml_space, no_equals, no_value, space_stands, value_stands, failed, refuse_both, unsupported_map}
+use Rattle.tc_tags.proofs.FailedLaws.{failed_ok}
+use Rattle.tc_xml.proofs.MalformedLaws.{of_both}
+use Rattle.tc_xml.proofs.ContentLaws.{failed, refuse_both, unsupported_map}
 use Rattle.tc_xml.proofs.content.attribute.Goals as goal
+use Rattle.tc_tags.proofs.FormLaws.{no_equals_refused, no_value_refused, no_equals, no_value, not_xml_space, space_stands, value_stands}
 
 no_white_refused : {text at : List ℕ} {why : Why} → (BeginsWithWhite text → ⊥) → AttributesRefuse text why at → ⊥
 no_white_refused h (space w n) = h w

@@ -6,10 +6,11 @@ use Rattle.tc_model.specs.XmlTextBytes.{after_white}
 use Rattle.tc_model.specs.XmlTextRefusals.{AttributesRefuse}
 use Rattle.tc_xml.specs.Refusals.{Refuses, UnsupportedAt}
 use Rattle.tc_xml.specs.Tags.{written, lacks_space}
-use Rattle.tc_xml.proofs.FailedLaws.{failed_ok}
+use Rattle.tc_tags.proofs.FailedLaws.{failed_ok}
 use Rattle.tc_xml.proofs.MemoryLaws.{out_malformed, out_refuses, out_stands}
-use Rattle.tc_xml.proofs.ContentLaws.{attributes_more, no_attributes, all_attributes, attribute_within, failed, refuse_both, unsupported_map, Attributes}
+use Rattle.tc_xml.proofs.ContentLaws.{attributes_more, failed, refuse_both, unsupported_map}
 use Rattle.tc_xml.proofs.content.attributes.Goals as goal
+use Rattle.tc_tags.proofs.FormLaws.{all_attributes, attribute_within, no_attributes, Attributes}
 
 pub returns-in_err-written-clause-no : goal.returns-in_err-written-clause-no
 returns-in_err-written-clause-no c =

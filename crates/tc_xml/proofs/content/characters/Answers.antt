@@ -4,7 +4,7 @@ use Rattle.tc_model.specs.XmlTextBytes.{line_ends}
 use Rattle.tc_model.specs.XmlTextContent.{characters}
 use Rattle.tc_xml.specs.Refusals.{Refuses}
 use Rattle.tc_xml.specs.Reading.{LacksItem}
-use Rattle.tc_xml.proofs.FailedLaws.{failed_ok}
+use Rattle.tc_tags.proofs.FailedLaws.{failed_ok}
 use Rattle.tc_xml.proofs.MemoryLaws.{out_refuses, out_stands}
 use Rattle.tc_xml.proofs.ContentLaws.{failed, refuse_both}
 use Rattle.tc_xml.proofs.ItemLaws.{lacks_reference, lacks_characters, reference_item, data_item}

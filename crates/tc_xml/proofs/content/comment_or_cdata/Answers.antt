@@ -2,7 +2,7 @@ use Rattle.std.proofs.Common.{refl, true}
 use Rattle.tc_model.specs.Views.{place}
 use Rattle.tc_model.specs.XmlTextBytes.{line_ends}
 use Rattle.tc_model.specs.XmlTextContent.{nothing, characters, comment}
-use Rattle.tc_xml.proofs.FailedLaws.{failed_ok}
+use Rattle.tc_tags.proofs.FailedLaws.{failed_ok}
 use Rattle.tc_xml.proofs.MemoryLaws.{out_breaks}
 use Rattle.tc_xml.proofs.ItemLaws.{lacks_bang, cdata_item}
 use Rattle.tc_xml.proofs.content.comment_or_cdata.Goals as goal

@@ -8,12 +8,13 @@ use Rattle.tc_xml.specs.Refusals.{Refuses, UnsupportedAt, OnMalformed}
 use Rattle.tc_xml.specs.Tags.{written, in_scope}
 use Rattle.tc_base.specs.declared.reasons.Why.{Why}
 use Rattle.tc_model.specs.XmlTextRefusals.{TagRefuses}
-use Rattle.tc_xml.proofs.FailedLaws.{failed_ok}
-use Rattle.tc_xml.proofs.MalformedLaws.{of_malformed, of_breaks, no_opening_refused, no_tag_name_refused, no_list_refused, read_list_not_refused}
+use Rattle.tc_tags.proofs.FailedLaws.{failed_ok}
+use Rattle.tc_xml.proofs.MalformedLaws.{of_malformed, of_breaks, no_opening_refused, no_tag_name_refused}
 use Rattle.tc_xml.proofs.ContentLaws.{no_list, no_meaning, broken, failed, refuse_both, unsupported_map}
 use Rattle.tc_xml.proofs.DocumentLaws.{list_stands, breaks_nowhere}
 use Rattle.tc_model.proofs.XmlTextPhrases.{same_others}
 use Rattle.tc_xml.proofs.content.open_tag.Goals as goal
+use Rattle.tc_tags.proofs.FormLaws.{no_list_refused, read_list_not_refused}
 
 pub returns-in_err-list-clause-no : goal.returns-in_err-list-clause-no
 returns-in_err-list-clause-no c =

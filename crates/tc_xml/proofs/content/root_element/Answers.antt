@@ -5,7 +5,7 @@ use Rattle.tc_model.specs.XmlTextContent.{Piece, piece_before, ElementAt}
 use Rattle.tc_model.specs.XmlTextRefusals.{Cause, ElementRefuses}
 use Rattle.tc_model.specs.XmlTextScopes.{first_scope}
 use Rattle.tc_xml.specs.Refusals.{RefusesWithin, RefusedAt, OnMalformed}
-use Rattle.tc_xml.proofs.FailedLaws.{failed_ok}
+use Rattle.tc_tags.proofs.FailedLaws.{failed_ok}
 use Rattle.tc_xml.proofs.ContentLaws.{failed}
 use Rattle.tc_xml.proofs.DocumentLaws.{breaks_within, breaks_shallow}
 use Rattle.tc_xml.proofs.MalformedLaws.{of_breaks}

@@ -1,10 +1,10 @@
-use Rattle.std.proofs.Common.{List, ℕ, sym, subst}
+use Rattle.std.proofs.Common.{List, ℕ, subst}
 use Rattle.tc_base.specs.declared.reasons.Why.{Why}
 use Rattle.tc_model.specs.XmlText.{after_mark, deepest_element}
 use Rattle.tc_model.specs.XmlTextMisc.{DeclarationAt, MiscAt, DoctypeAt}
 use Rattle.tc_model.specs.XmlTextRefusals.{Cause, unsupported, DocumentRefuses}
 use Rattle.tc_xml.specs.Refusals.{Refuses, UnsupportedAt, OnMalformed}
-use Rattle.tc_xml.proofs.FailedLaws.{failed_ok}
+use Rattle.tc_tags.proofs.FailedLaws.{failed_ok}
 use Rattle.tc_xml.proofs.ContentLaws.{broken, failed, refuse_both, unsupported_map}
 use Rattle.tc_xml.proofs.DocumentLaws.{no_declaration_before, no_misc_before, no_doctype_before, declaration_stands, subset_stands, breaks_nowhere}
 use Rattle.tc_xml.proofs.MalformedLaws.{of_breaks, of_both, err_both, no_declaration_refused, no_misc_refused, no_doctype_refused}

@@ -8,7 +8,7 @@ use Rattle.tc_model.specs.XmlTextMisc.{MiscAt}
 use Rattle.tc_model.specs.XmlTextRefusals.{Cause, DocumentRefuses}
 use Rattle.tc_xml.specs.Refusals.{RefusesWithin, RefusedAt, OnMalformed}
 use Rattle.tc_xml.proofs.ContentLaws.{failed}
-use Rattle.tc_xml.proofs.FailedLaws.{failed_ok}
+use Rattle.tc_tags.proofs.FailedLaws.{failed_ok}
 use Rattle.tc_xml.proofs.ElementLaws.{refuse_within, refused_map, refuse_shallow, refused_shallow}
 use Rattle.tc_xml.proofs.DocumentLaws.{no_root_here, no_element_here, no_end_here, no_more_here, element_stands, breaks_within, breaks_shallow}
 use Rattle.tc_xml.proofs.MalformedLaws.{of_malformed, of_breaks, no_root_refused, root_not_refused}

@@ -1,6 +1,6 @@
 use Rattle.std.proofs.lemmas.Option.{IfSome_then}
 use Rattle.tc_model.specs.Stripped.{stripped}
-use Rattle.tc_xml.proofs.FailedLaws.{failed_some}
+use Rattle.tc_tags.proofs.FailedLaws.{failed_some}
 use Rattle.tc_xml.proofs.BuildingLaws.{built}
 use Rattle.tc_xml.proofs.documents.plain_document.Goals as goal
 

@@ -1,6 +1,5 @@
 use Rattle.tc_scan.proofs.NamesLaws.{at_none}
 use Rattle.tc_xml.proofs.MiscLaws.{no_external, no_white_front, no_name_front}
-use Rattle.std.proofs.Common.{sym, ap, ◌∙◌}
 use Rattle.tc_xml.proofs.misc.after_doctype_front.Goals as goal
 
 pub returns-in_err-end : goal.returns-in_err-end

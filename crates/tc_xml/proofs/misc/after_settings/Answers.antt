@@ -4,7 +4,7 @@ use Rattle.tc_base.specs.declared.reasons.Why.TheVariants.{Encoding}
 use Rattle.tc_model.specs.XmlTextBytes.{after_white}
 use Rattle.tc_model.specs.XmlTextMisc.{SettingAt, IsReadEncoding, EncodingAt, StandaloneAt}
 use Rattle.tc_xml.specs.Refusals.{Refuses, UnsupportedAt, OnMalformed}
-use Rattle.tc_xml.proofs.FailedLaws.{failed_ok}
+use Rattle.tc_tags.proofs.FailedLaws.{failed_ok}
 use Rattle.tc_xml.proofs.MiscLaws.{no_standing, no_declaration_end}
 use Rattle.tc_xml.proofs.MalformedLaws.{of_malformed, of_breaks, read_encoding_not_refused}
 use Rattle.tc_xml.proofs.DocumentLaws.{breaks_nowhere}

@@ -1,4 +1,4 @@
-use Rattle.tc_xml.proofs.FailedLaws.{failed_some}
+use Rattle.tc_tags.proofs.FailedLaws.{failed_some}
 use Rattle.tc_xml.proofs.plain_tags.declaration.Goals as goal
 
 pub returns : goal.returns

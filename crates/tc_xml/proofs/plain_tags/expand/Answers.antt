@@ -1,6 +1,6 @@
 use Rattle.std.proofs.Common.{sym}
 use Rattle.tc_xml.specs.PlainTags.{as_written}
-use Rattle.tc_xml.proofs.FailedLaws.{failed_some}
+use Rattle.tc_tags.proofs.FailedLaws.{failed_some}
 use Rattle.tc_xml.proofs.PlainTagLaws.{expands_declaring, expands_plain, expands_bound}
 use Rattle.tc_xml.proofs.plain_tags.expand.Goals as goal
 

@@ -1,6 +1,6 @@
 use Rattle.std.proofs.Common.{◌∙◌, sym, ap, map, take_all, Some}
 use Rattle.tc_xml.specs.PlainTags.{as_written, as_expanded, expanded_name}
-use Rattle.tc_xml.proofs.FailedLaws.{failed_some}
+use Rattle.tc_tags.proofs.FailedLaws.{failed_some}
 use Rattle.tc_xml.proofs.PlainTagLaws.{expanded_more}
 use Rattle.tc_xml.proofs.TwiceLaws.{blank}
 use Rattle.tc_xml.proofs.plain_tags.expand_all.Goals as goal

@@ -1,5 +1,5 @@
 use Rattle.tc_scan.specs.Views.{written_name}
-use Rattle.tc_xml.proofs.FailedLaws.{failed_some}
+use Rattle.tc_tags.proofs.FailedLaws.{failed_some}
 use Rattle.tc_xml.proofs.PlainTagLaws.{an_attribute, one_noted}
 use Rattle.tc_xml.proofs.plain_tags.read_attribute.Goals as goal
 

@@ -1,8 +1,8 @@
 use Rattle.std.proofs.Common.{rules}
-use Rattle.tc_xml.proofs.FailedLaws.{failed_some}
-use Rattle.tc_xml.proofs.ContentLaws.{attribute_within}
+use Rattle.tc_tags.proofs.FailedLaws.{failed_some}
 use Rattle.tc_xml.proofs.PlainTagLaws.{read_none, read_more, all_read}
 use Rattle.tc_xml.proofs.plain_tags.read_attributes.Goals as goal
+use Rattle.tc_tags.proofs.FormLaws.{attribute_within}
 
 pub attributes-init : goal.attributes-init
 attributes-init c = record { so_far = λ total. read_none total c.args.bindings.now c.args.text.now c.clear.new.self.items c.clear.ensures.items; text = search rules }

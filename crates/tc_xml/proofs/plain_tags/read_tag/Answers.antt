@@ -2,7 +2,7 @@ use Rattle.std.proofs.Common.{subst, rules}
 use Rattle.tc_model.specs.Views.{name}
 use Rattle.tc_scan.specs.Views.{written_name}
 use Rattle.tc_xml.specs.PlainTags.{AreExpanded}
-use Rattle.tc_xml.proofs.FailedLaws.{failed_some}
+use Rattle.tc_tags.proofs.FailedLaws.{failed_some}
 use Rattle.tc_xml.proofs.PlainTagLaws.{a_tag, tag_is_shorter}
 use Rattle.tc_xml.proofs.plain_tags.read_tag.Goals as goal
 

@@ -1,8 +1,8 @@
 use Rattle.tc_model.specs.XmlTextBytes.{line_ends}
 use Rattle.tc_model.specs.XmlTextReferences.{spaced}
-use Rattle.tc_xml.specs.Values.{plain, reference}
-use Rattle.tc_xml.proofs.ValueLaws.{cut_after_plain, run_at}
+use Rattle.tc_tags.specs.Values.{plain, reference}
 use Rattle.tc_xml.proofs.references.after_piece.Goals as goal
+use Rattle.tc_tags.proofs.ValueLaws.{cut_after_plain, run_at}
 
 pub split_at-requires : goal.split_at-requires
 split_at-requires c = cut_after_plain c.args.quote c.plain_len_within-count.result c.args.text.now c.requires c.plain_len_within-count.ensures.count

@@ -1,8 +1,9 @@
 use Rattle.std.proofs.Common.{[], rules}
 use Rattle.tc_model.specs.XmlTextReferences.{closed}
-use Rattle.tc_xml.proofs.FailedLaws.{failed_some}
-use Rattle.tc_xml.proofs.ValueLaws.{value_before, piece_shorter, text_past_piece}
+use Rattle.tc_tags.proofs.FailedLaws.{failed_some}
+use Rattle.tc_xml.proofs.ValueLaws.{value_before}
 use Rattle.tc_xml.proofs.references.after_quoted.Goals as goal
+use Rattle.tc_tags.proofs.ValueLaws.{piece_shorter, text_past_piece}
 
 pub pieces-init : goal.pieces-init
 pieces-init c = record { forth = λ v after h. (v, h); text = search rules }

@@ -2,8 +2,9 @@ use Rattle.std.proofs.Common.{arith, string_bytes, refl, ◌∙◌, sym, ap, ◌
 use Rattle.memchr.specs.Find.{is_byte}
 use Rattle.tc_scan.proofs.FrontLaws.{run_to_some, run_to_none}
 use Rattle.tc_model.specs.XmlTextBytes.{line_ends}
-use Rattle.tc_xml.proofs.LineLaws.{not_return, lines_step, appended, step_shorter, found_within, lines_end}
+use Rattle.tc_xml.proofs.LineLaws.{not_return, lines_step, appended, lines_end}
 use Rattle.tc_xml.proofs.references.push_lines.Goals as goal
+use Rattle.tc_tags.proofs.LineLaws.{found_within, step_shorter}
 
 pub loop-at-smaller : goal.loop-at-smaller
 loop-at-smaller c =

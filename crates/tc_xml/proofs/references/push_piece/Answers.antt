@@ -2,11 +2,12 @@ use Rattle.std.proofs.Common.{sym, ◌∙◌}
 use Rattle.std.specs.Prelude.{encode_utf8}
 use Rattle.tc_model.specs.XmlTextBytes.{line_ends}
 use Rattle.tc_model.specs.XmlTextReferences.{spaced}
-use Rattle.tc_xml.specs.Values.{plain, reference}
-use Rattle.tc_xml.proofs.FailedLaws.{failed_ok}
+use Rattle.tc_tags.specs.Values.{plain, reference}
+use Rattle.tc_tags.proofs.FailedLaws.{failed_ok}
 use Rattle.tc_xml.proofs.MemoryLaws.{out_refuses, out_stands}
-use Rattle.tc_xml.proofs.ValueLaws.{cut_after_plain, no_piece, run_at, err_refuses, err_stands}
+use Rattle.tc_xml.proofs.ValueLaws.{err_refuses, err_stands}
 use Rattle.tc_xml.proofs.references.push_piece.Goals as goal
+use Rattle.tc_tags.proofs.ValueLaws.{cut_after_plain, no_piece, run_at}
 
 pub split_at-requires : goal.split_at-requires
 split_at-requires c = cut_after_plain c.args.quote c.plain_len_within-count.result c.args.text.now c.requires.is_quote c.plain_len_within-count.ensures.count

@@ -3,8 +3,9 @@ use Rattle.memchr.specs.Find.{is_byte3}
 use Rattle.tc_scan.proofs.FrontLaws.{run_to_some, run_to_none}
 use Rattle.tc_model.specs.XmlTextBytes.{line_ends}
 use Rattle.tc_model.specs.XmlTextReferences.{spaced}
-use Rattle.tc_xml.proofs.LineLaws.{not_break, spaces_step, appended, step_shorter, found_within, spaces_end}
+use Rattle.tc_xml.proofs.LineLaws.{appended}
 use Rattle.tc_xml.proofs.references.push_spaced.Goals as goal
+use Rattle.tc_tags.proofs.LineLaws.{found_within, not_break, spaces_end, spaces_step, step_shorter}
 
 pub loop-at-smaller : goal.loop-at-smaller
 loop-at-smaller c =

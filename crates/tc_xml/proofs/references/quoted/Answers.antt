@@ -1,11 +1,13 @@
 use Rattle.std.proofs.Common.{string_bytes, List, ℕ}
 use Rattle.tc_model.specs.XmlTextRefusals.{QuotedRefuses}
 use Rattle.tc_xml.specs.Refusals.{OnMalformed}
-use Rattle.tc_xml.proofs.FailedLaws.{failed_ok}
+use Rattle.tc_tags.proofs.FailedLaws.{failed_ok}
 use Rattle.tc_xml.proofs.ContentLaws.{failed}
-use Rattle.tc_xml.proofs.MalformedLaws.{of_refuses, no_quoted_refused}
-use Rattle.tc_xml.proofs.ValueLaws.{no_quoted, read_whole, step_more, piece_shorter, text_past_piece, err_refuses, err_stands, quoted_refuses}
+use Rattle.tc_xml.proofs.MalformedLaws.{of_refuses}
+use Rattle.tc_xml.proofs.ValueLaws.{no_quoted, read_whole, step_more, err_refuses, err_stands}
 use Rattle.tc_xml.proofs.references.quoted.Goals as goal
+use Rattle.tc_tags.proofs.FormLaws.{no_quoted_refused, quoted_refuses}
+use Rattle.tc_tags.proofs.ValueLaws.{piece_shorter, text_past_piece}
 
 pub returns-in-Some-after_byte-clause-ok : goal.returns-in-Some-after_byte-clause-ok
 returns-in-Some-after_byte-clause-ok c =

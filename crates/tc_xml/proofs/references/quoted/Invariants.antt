@@ -1,6 +1,6 @@
 use Rattle.std.proofs.Common.{IsUtf8, length, string_bytes}
-use Rattle.tc_xml.proofs.ValueLaws.{Step}
 use Rattle.tc_xml.proofs.references.quoted.Given as goal
+use Rattle.tc_tags.proofs.FormLaws.{Step}
 
 abbrev pub invariant-loop-after : goal.invariant-loop-after
 invariant-loop-after l = record {

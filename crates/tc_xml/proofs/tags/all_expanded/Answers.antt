@@ -3,7 +3,7 @@ use Rattle.std.specs.Option.{option_to_list}
 use Rattle.tc_model.specs.Views.{attribute}
 use Rattle.tc_model.specs.XmlTextScopes.{Expands, no_more}
 use Rattle.tc_xml.specs.Tags.{in_scope}
-use Rattle.tc_xml.proofs.FailedLaws.{failed_ok}
+use Rattle.tc_tags.proofs.FailedLaws.{failed_ok}
 use Rattle.tc_xml.proofs.TagLaws.{all_more, no_expansion, err_breaks, blank_written}
 use Rattle.tc_xml.proofs.tags.all_expanded.Goals as goal
 use Rattle.tc_xml.proofs.tags.all_expanded.Goals.{in-Some+in_ok-push-in-Some, in-None}

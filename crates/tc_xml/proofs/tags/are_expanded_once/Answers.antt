@@ -1,6 +1,6 @@
 use Rattle.std.proofs.Common.{◌∙◌, ap, map, take_all}
 use Rattle.tc_model.specs.Views.{attribute}
-use Rattle.tc_xml.proofs.FailedLaws.{failed_ok}
+use Rattle.tc_tags.proofs.FailedLaws.{failed_ok}
 use Rattle.tc_xml.proofs.MemoryLaws.{out_breaks}
 use Rattle.tc_xml.proofs.TagLaws.{all_expanded_once, pair_expanded}
 use Rattle.tc_xml.proofs.tags.are_expanded_once.Goals as goal

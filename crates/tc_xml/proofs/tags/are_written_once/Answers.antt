@@ -1,6 +1,6 @@
 use Rattle.std.proofs.Common.{◌∙◌, ap, map, take_all}
 use Rattle.tc_xml.specs.Tags.{written}
-use Rattle.tc_xml.proofs.FailedLaws.{failed_ok}
+use Rattle.tc_tags.proofs.FailedLaws.{failed_ok}
 use Rattle.tc_xml.proofs.MemoryLaws.{out_breaks}
 use Rattle.tc_xml.proofs.TagLaws.{all_written_once, pair_name}
 use Rattle.tc_xml.proofs.tags.are_written_once.Goals as goal

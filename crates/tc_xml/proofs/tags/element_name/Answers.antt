@@ -1,7 +1,7 @@
 use Rattle.std.proofs.Common.{sym}
 use Rattle.tc_scan.specs.Views.{written_name}
 use Rattle.tc_xml.specs.Tags.{in_scope}
-use Rattle.tc_xml.proofs.FailedLaws.{failed_ok}
+use Rattle.tc_tags.proofs.FailedLaws.{failed_ok}
 use Rattle.tc_xml.proofs.TagLaws.{bound_name, unbound_name}
 use Rattle.tc_xml.proofs.tags.element_name.Goals as goal
 

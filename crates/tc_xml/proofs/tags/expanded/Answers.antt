@@ -1,6 +1,6 @@
 use Rattle.tc_xml.specs.Tags.{in_scope}
 use Rattle.tc_xml.specs.Tags.{written}
-use Rattle.tc_xml.proofs.FailedLaws.{failed_ok}
+use Rattle.tc_tags.proofs.FailedLaws.{failed_ok}
 use Rattle.tc_xml.proofs.TagLaws.{expands_declaration, expands_attribute}
 use Rattle.tc_xml.proofs.tags.expanded.Goals as goal
 

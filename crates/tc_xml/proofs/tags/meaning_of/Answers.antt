@@ -5,7 +5,7 @@ use Rattle.tc_model.specs.Views.{name, attribute}
 use Rattle.tc_model.specs.XmlTextScopes.{ElementName, Expands, TagMeans}
 use Rattle.tc_scan.specs.Views.{written_name}
 use Rattle.tc_xml.specs.Tags.{in_scope, written, Breaks}
-use Rattle.tc_xml.proofs.FailedLaws.{failed_ok}
+use Rattle.tc_tags.proofs.FailedLaws.{failed_ok}
 use Rattle.tc_xml.proofs.MiscLaws.{map_ok, map_err}
 use Rattle.tc_xml.proofs.TagLaws.{breaks_too, is_distinct, in_its_scope}
 use Rattle.tc_xml.proofs.tags.meaning_of.Goals as goal

@@ -6,7 +6,7 @@ use Rattle.tc_model.specs.Views.{attribute}
 use Rattle.tc_model.specs.XmlTextScopes.{ElementName, Expands}
 use Rattle.tc_scan.specs.Views.{written_name}
 use Rattle.tc_xml.specs.Tags.{in_scope, written}
-use Rattle.tc_xml.proofs.FailedLaws.{failed_ok}
+use Rattle.tc_tags.proofs.FailedLaws.{failed_ok}
 use Rattle.tc_xml.proofs.TagLaws.{err_breaks, is_distinct, not_expanded_once}
 use Rattle.tc_xml.proofs.tags.meaning_within.Goals as goal
 

@@ -10,4 +10,5 @@ returns c = record {
   deep = refl;
   deeper = omega (arith, c.requires);
   bindings = refl;
+  spelled = refl;
 }

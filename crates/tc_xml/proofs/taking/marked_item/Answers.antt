@@ -2,7 +2,7 @@ use Rattle.std.proofs.Common.{refl}
 use Rattle.tc_model.specs.Runs.{run_text}
 use Rattle.tc_model.specs.XmlTextBytes.{line_ends, place_of}
 use Rattle.tc_model.specs.XmlTextContent.{nothing, characters, comment}
-use Rattle.tc_xml.proofs.FailedLaws.{failed_some}
+use Rattle.tc_tags.proofs.FailedLaws.{failed_some}
 use Rattle.tc_xml.proofs.ItemLaws.{cdata_item}
 use Rattle.tc_xml.proofs.TakingLaws.{took_nothing, took_characters}
 use Rattle.tc_xml.proofs.taking.marked_item.Goals as goal

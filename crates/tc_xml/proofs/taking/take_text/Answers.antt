@@ -1,6 +1,6 @@
-use Rattle.std.proofs.Common.{rules, length}
+use Rattle.std.proofs.Common.{rules}
 use Rattle.tc_model.specs.XmlText.{deepest_element}
-use Rattle.tc_xml.proofs.FailedLaws.{failed_some}
+use Rattle.tc_tags.proofs.FailedLaws.{failed_some}
 use Rattle.tc_xml.proofs.TakingLaws.{read_text}
 use Rattle.tc_xml.proofs.taking.take_text.Goals as goal
 

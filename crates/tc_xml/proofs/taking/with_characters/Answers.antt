@@ -2,7 +2,7 @@ use Rattle.std.proofs.Common.{◌++◌, refl, sym, ap, ◌∙◌}
 use Rattle.memchr.specs.Find.{is_byte}
 use Rattle.tc_model.specs.Runs.{run_text}
 use Rattle.tc_scan.proofs.FrontLaws.{run_to_none}
-use Rattle.tc_xml.proofs.FailedLaws.{failed_some}
+use Rattle.tc_tags.proofs.FailedLaws.{failed_some}
 use Rattle.tc_xml.proofs.LineLaws.{not_return, lines_end}
 use Rattle.tc_xml.proofs.taking.with_characters.Goals as goal
 

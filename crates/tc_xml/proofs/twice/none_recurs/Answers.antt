@@ -1,7 +1,7 @@
 use Rattle.std.proofs.Common.{◌∙◌, sym, ap, get_or}
 use Rattle.std.specs.List.{list_any}
 use Rattle.tc_xml.specs.Pairs.{same_pair}
-use Rattle.tc_xml.proofs.FailedLaws.{failed_ok}
+use Rattle.tc_tags.proofs.FailedLaws.{failed_ok}
 use Rattle.tc_xml.proofs.TwiceLaws.{seen_at, blank, found_before, none_seen, one_more_key}
 use Rattle.tc_xml.proofs.twice.none_recurs.Goals as goal
 

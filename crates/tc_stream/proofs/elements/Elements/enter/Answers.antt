@@ -2,11 +2,11 @@ use Rattle.std.proofs.Common.{◌≤◌, ◌∷◌, ap, sym, subst, arith, lengt
 use Rattle.std.proofs.Math.Logic.{∥∥₁_map}
 use Rattle.tc_model.specs.XmlTextScopes.{scope_within}
 use Rattle.tc_stream.specs.Keeps.{IsOfSome, entered, path_of}
-use Rattle.tc_stream.specs.Written.{AreWritten}
-use Rattle.tc_stream.specs.declared.attributes.Attributes.{Attributes}
+use Rattle.tc_tags.specs.Written.{AreWritten}
+use Rattle.tc_tags.specs.declared.attributes.Attributes.{Attributes}
 use Rattle.tc_stream.specs.declared.elements.Level as code
-use Rattle.tc_stream.specs.declared.names.Room.{Room}
-use Rattle.tc_stream.specs.declared.scopes.Scopes.{Scopes}
+use Rattle.tc_tags.specs.declared.names.Room.{Room}
+use Rattle.tc_tags.specs.declared.scopes.Scopes.{Scopes}
 use Rattle.tc_stream.proofs.EnterLaws.{tagged, tag_means, tag_open, tag_fits, tag_texts, tag_named, tag_meaning, no_meaning, too_many, open_moved, kept_moved}
 use Rattle.tc_stream.proofs.KeepsLaws.{room_of_some, kept_of_some, kept_text}
 use Rattle.tc_stream.proofs.PathLaws.{steps_entered}

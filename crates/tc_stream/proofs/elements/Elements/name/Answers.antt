@@ -1,6 +1,6 @@
 use Rattle.std.proofs.Common.{◌-◌, ◌∙◌, [], List, ap, sym, subst, length, slice_get}
 use Rattle.tc_model.specs.XmlTextNames.{QNameAt}
-use Rattle.tc_stream.specs.Spans.{at_span}
+use Rattle.tc_tags.specs.Spans.{at_span}
 use Rattle.tc_stream.specs.declared.elements.Level as code
 use Rattle.tc_stream.proofs.KeepsLaws.{innermost, some_open}
 use Rattle.tc_stream.proofs.elements.Elements.name.Goals as goal

@@ -1,5 +1,5 @@
 use Rattle.tc_stream.proofs.KeepsLaws.{none_yet}
-use Rattle.tc_stream.proofs.FailedLaws.{no_value}
+use Rattle.tc_tags.proofs.FailedLaws.{no_value}
 use Rattle.tc_stream.proofs.elements.Elements.new.Goals as goal
 
 pub returns-clause-keeps : goal.returns-clause-keeps

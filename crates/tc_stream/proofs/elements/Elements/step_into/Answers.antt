@@ -2,8 +2,8 @@ use Rattle.std.proofs.Common.{ap, sym, arith, ◌≡◌, ◌<◌, ◌++◌, ◌�
 use Rattle.std.specs.Prelude.{vec_len, vec_capacity}
 use Rattle.std.proofs.lemmas.Bool.{cond-true}
 use Rattle.tc_model.specs.Views as see
-use Rattle.tc_stream.specs.declared.names.Room.{Room}
-use Rattle.tc_stream.specs.declared.scopes.Scopes.{Scopes}
+use Rattle.tc_tags.specs.declared.names.Room.{Room}
+use Rattle.tc_tags.specs.declared.scopes.Scopes.{Scopes}
 use Rattle.tc_stream.proofs.EnterLaws.{meant_same, named_same, unnamed_same, chained_same}
 use Rattle.tc_stream.proofs.elements.Elements.step_into.Goals as goal
 

@@ -2,7 +2,7 @@ use Rattle.std.proofs.Common.{◌≡◌, ◌+◌, inl, refl, arith, sym, ◌∙�
 use Rattle.tc_stream.specs.Reading.{FaultsOn}
 use Rattle.tc_stream.proofs.DataReads.{at_front, at_front_less, begun_text, begun_text_faults, cut_at_mark}
 use Rattle.tc_stream.proofs.ReadingLaws.{failed}
-use Rattle.tc_stream.proofs.FailedLaws.{failed_ok}
+use Rattle.tc_tags.proofs.FailedLaws.{failed_ok}
 use Rattle.tc_stream.proofs.reader.Reader.begin_data.Goals as goal
 
 pub begin_reference-requires-clause-open_here : goal.begin_reference-requires-clause-open_here

@@ -2,7 +2,7 @@ use Rattle.std.proofs.Common.{[], refl, arith}
 use Rattle.tc_model.specs.XmlTextScopes.{first_scope}
 use Rattle.tc_stream.proofs.KeepsLaws.{ready}
 use Rattle.tc_stream.proofs.StandsLaws.{new_reads}
-use Rattle.tc_stream.proofs.FailedLaws.{no_value}
+use Rattle.tc_tags.proofs.FailedLaws.{no_value}
 use Rattle.tc_stream.proofs.reader.Reader.new.Goals as goal
 
 pub returns-clause-ready : goal.returns-clause-ready

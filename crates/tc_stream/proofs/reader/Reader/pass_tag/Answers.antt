@@ -4,7 +4,7 @@ use Rattle.tc_stream.specs.Scans.{tag_scan}
 use Rattle.tc_stream.specs.Stands.{ReadsTo}
 use Rattle.tc_stream.specs.declared.faults.StreamFault.TheVariants.{TagTooLong}
 use Rattle.tc_stream.proofs.TagReads.{failed, front_chars, front_fault, whole_start, whole_start_fault}
-use Rattle.tc_stream.proofs.FailedLaws.{failed_ok}
+use Rattle.tc_tags.proofs.FailedLaws.{failed_ok}
 use Rattle.tc_stream.proofs.reader.Reader.pass_tag.Goals as goal
 
 pub returns-then-not-push_str-clause-fault : goal.returns-then-not-push_str-clause-fault

@@ -1,7 +1,7 @@
 use Rattle.std.proofs.Common.{List, ℕ, subst, arith, rules}
 use Rattle.tc_stream.specs.Reading.{ReadsOn, FaultsOn}
 use Rattle.tc_stream.proofs.ReadingLaws.{read_none, read_then, fault_then, failed, none_left}
-use Rattle.tc_stream.proofs.FailedLaws.{failed_ok}
+use Rattle.tc_tags.proofs.FailedLaws.{failed_ok}
 use Rattle.tc_stream.proofs.reader.Reader.read_all.Goals as goal
 
 pub loop-rest-init : goal.loop-rest-init

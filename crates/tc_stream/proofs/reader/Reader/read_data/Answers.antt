@@ -3,7 +3,7 @@ use Rattle.tc_stream.specs.Reading.{FaultsOn}
 use Rattle.tc_stream.proofs.DataReads.{at_front, at_front_less, grown_text, grown_text_faults, cut_at_mark}
 use Rattle.tc_stream.proofs.ReadingLaws.{failed}
 use Rattle.tc_stream.proofs.ScanEnds.{counted_data}
-use Rattle.tc_stream.proofs.FailedLaws.{failed_ok}
+use Rattle.tc_tags.proofs.FailedLaws.{failed_ok}
 use Rattle.tc_stream.proofs.reader.Reader.read_data.Goals as goal
 
 pub begin_reference-requires-clause-open_here : goal.begin_reference-requires-clause-open_here

@@ -4,7 +4,7 @@ use Rattle.tc_stream.specs.Reading.{FaultsOn, ReadsOn}
 use Rattle.tc_stream.specs.Stands.{IsReading, ReadsTo}
 use Rattle.tc_stream.specs.TagEnds.{TellsEndTag}
 use Rattle.tc_stream.proofs.TagReads.{at_err, at_ok, cut_behind, failed, front_chars, front_fault, if_err, if_ok, reads_all, reads_front, shorter_by}
-use Rattle.tc_stream.proofs.FailedLaws.{failed_ok}
+use Rattle.tc_tags.proofs.FailedLaws.{failed_ok}
 use Rattle.tc_stream.proofs.reader.Reader.read_end_tag.Goals as goal
 
 pub returns-in_default-clause-ok : goal.returns-in_default-clause-ok

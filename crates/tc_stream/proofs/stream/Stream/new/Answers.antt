@@ -1,5 +1,5 @@
 use Rattle.std.proofs.Common.{[], inl, refl, sym}
-use Rattle.tc_stream.proofs.FailedLaws.{no_value}
+use Rattle.tc_tags.proofs.FailedLaws.{no_value}
 use Rattle.tc_stream.proofs.stream.Stream.new.Goals as goal
 
 pub returns-clause-stands : goal.returns-clause-stands

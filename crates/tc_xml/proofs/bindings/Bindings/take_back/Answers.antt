@@ -3,7 +3,7 @@ use Rattle.tc_model.specs.Views.{bound}
 use Rattle.tc_model.specs.XmlTextScopes.{uri_of}
 use Rattle.tc_xml.specs.Bounds.{bounds}
 use Rattle.tc_xml.specs.Bindings.{now_bound, hidden}
-use Rattle.tc_xml.proofs.FailedLaws.{failed_some}
+use Rattle.tc_tags.proofs.FailedLaws.{failed_some}
 use Rattle.tc_xml.proofs.BindingLaws.{uri_inserted, back_one, front_one, all_back}
 use Rattle.tc_xml.proofs.bindings.Bindings.take_back.Goals as goal
 

@@ -3,7 +3,7 @@ use Rattle.std.specs.Map.Iter.{deref_pair}
 use Rattle.std.proofs.lemmas.Map.Iter.{iter_end}
 use Rattle.tc_model.specs.Views.{bound}
 use Rattle.tc_xml.specs.Bounds.{bounds}
-use Rattle.tc_xml.proofs.FailedLaws.{failed_ok}
+use Rattle.tc_tags.proofs.FailedLaws.{failed_ok}
 use Rattle.tc_xml.proofs.MemoryLaws.{out_breaks}
 use Rattle.tc_xml.proofs.scopes.Scope.bindings_of.Goals as goal
 

@@ -1,6 +1,0 @@
-use Rattle.std.proofs.Common.{◌≡◌, drop}
-use Rattle.tc_stream.specs.Chained.{mixed}
-use Rattle.tc_stream.proofs.chains.mixed.Given as goal
-
-abbrev pub invariant-loop-byte : goal.invariant-loop-byte
-invariant-loop-byte l = mixed l.hash (drop l.byte-index l.bytes) ≡ mixed l.start l.bytes

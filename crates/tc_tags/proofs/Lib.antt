@@ -1,0 +1,16 @@
+pub mod TagLaws
+pub mod FailedLaws
+pub mod ChainLaws
+pub mod ListedLaws
+pub mod ScopeLaws
+pub mod BindingLaws
+pub mod LineLaws
+pub mod ValueLaws
+pub mod AddingLaws
+pub mod FormLaws
+pub mod TagReadLaws
+pub mod ElementLaws
+pub mod NameBytes
+pub mod RoomLaws
+pub mod MeaningLaws
+pub mod CountLaws

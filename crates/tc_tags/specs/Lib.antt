@@ -1,0 +1,10 @@
+pub mod Begins
+pub mod XmlTextTags
+pub mod Spans
+pub mod Chained
+pub mod Scoped
+pub mod Listed
+pub mod Bindings
+pub mod Values
+pub mod Written
+pub mod Forms
