@@ -1,7 +1,7 @@
 -- A walk along all steps from number to number, and the components that it finds.
 use Rattle.std.specs.Prelude.{◌≡◌, ◌<◌, ◌≤◌, ◌+◌, ◌*◌, ◌-◌, ◌⊎◌, ℕ, Bool, false, ◌==◌, List, [], ◌∷◌, ◌++◌, length, take, drop, max, slice_index, slice_index_or, slice_set}
 use Rattle.std.specs.List.{Contains, All, sum_by}
-use Rattle.tc_graph.specs.Graph.{Edge, Path}
+use Rattle.tc_graph.specs.Graph.{Edge, IsGraph, Path}
 use Rattle.tc_graph.specs.declared.cycles.State.{State}
 use Rattle.tc_graph.specs.declared.cycles.State.TheVariants.{New, Open, Done}
 use Rattle.tc_graph.specs.declared.cycles.Start.{Start}
@@ -118,6 +118,23 @@ longest (row ∷ rows) = max (length row) (longest rows)
 -- how much is left to be done, at most
 abbrev pub cost : List (List ℕ) → Stacks → ℕ
 cost rows s = sum_by weight s.states * (2 + longest rows) + length s.steps + length s.starts
+
+-- a walk, of which nothing stands on the stack
+pub record IsAtRest (rows : List (List ℕ)) (s : Stacks) : Type 0 where
+  pub graph : IsGraph rows
+  pub walk : IsWalk rows s
+  pub empty : s.stack ≡ []
+
+-- a walk that goes on from the last component on the stack, which begins there
+pub record IsUnderWay (rows : List (List ℕ)) (s : Stacks) (last_start : Start) : Type 0 where
+  pub graph : IsGraph rows
+  pub walk : IsWalk rows s
+  pub last : (front : List Start) × (s.starts ≡ front ++ last_start ∷ [])
+
+-- a number is come to, if it wasn't
+pub record ComesTo (number : ℕ) (s t : Stacks) : Type 0 where
+  pub old : KeepsOld s t
+  pub here : state_at t.states number ≡ New → ⊥
 
 -- Each number is in a component; those of one component lead to one another, and no step leads to a later component.
 pub record AreComponents (rows : List (List ℕ)) (states : List State) (order : List ℕ) : Type 0 where

@@ -2,10 +2,10 @@
 // stack, cut into components: those of one component lead to one another, and each leads to all that follow.
 // A step back to an earlier component makes one of all from there on (Gabow, Path-based depth-first search
 // for strong and biconnected components, 2000).
-ghost use Rattle.std.specs.Prelude.{◌≡◌, ◌<◌, ◌∷◌, ◌++◌, [], List, length, IfOk, OnOk};
+ghost use Rattle.std.specs.Prelude.{◌≡◌, ◌<◌, length, IfOk, OnOk};
 ghost use Rattle.std.specs.List.{All};
 ghost use Rattle.tc_graph.specs.Graph.{IsGraph, rows_of};
-ghost use Rattle.tc_graph.specs.Walks.{AreComponents, AreFinished, IsClosed, IsStarted, IsWalk, KeepsOld, cost, entered, joined, same_component, seen, state_at};
+ghost use Rattle.tc_graph.specs.Walks.{AreComponents, AreFinished, ComesTo, IsAtRest, IsClosed, IsStarted, IsUnderWay, IsWalk, KeepsOld, cost, entered, joined, same_component, seen, state_at};
 
 use bumpalo::Bump;
 use tc_base::NoMemory;
@@ -83,9 +83,7 @@ impl<'b> Walk<'b> {
 
     /// Takes the last step, or leaves the last component where none of its steps is left.
     fn advance(&mut self, rows: &[&[usize]], start: Start) -> Result<(), NoMemory>
-        requires graph { IsGraph (rows_of rows.now) }
-        requires walk { IsWalk (rows_of rows.now) (seen self.old) }
-        requires last { (front : List Start) × (self.old.starts.items ≡ front ++ start ∷ []) }
+        requires { IsUnderWay (rows_of rows.now) (seen self.old) start }
         ensures walk { OnOk result (IsWalk (rows_of rows.now) (seen self.new)) }
         ensures old { OnOk result (KeepsOld (seen self.old) (seen self.new)) }
         ensures less { OnOk result
@@ -112,11 +110,9 @@ impl<'b> Walk<'b> {
     /// Comes to a number, if it wasn't come to.
     fn begin(&mut self, rows: &[&[usize]], number: usize) -> Result<(), NoMemory>
         requires within { number < length rows.now }
-        requires walk { IsWalk (rows_of rows.now) (seen self.old) }
-        requires empty { self.old.stack.items ≡ [] }
+        requires rest { IsAtRest (rows_of rows.now) (seen self.old) }
         ensures walk { OnOk result (IsWalk (rows_of rows.now) (seen self.new)) }
-        ensures old { OnOk result (KeepsOld (seen self.old) (seen self.new)) }
-        ensures here { OnOk result (state_at self.new.states.items number ≡ State.New → ⊥) }
+        ensures came { OnOk result (ComesTo number (seen self.old) (seen self.new)) }
     {
         match self.states[number] {
             State::New => self.enter(number, rows[number]),
@@ -126,14 +122,10 @@ impl<'b> Walk<'b> {
 
     /// Walks from a number to all to which it leads.
     fn walk(&mut self, rows: &[&[usize]], number: usize) -> Result<(), NoMemory>
-        requires graph { IsGraph (rows_of rows.now) }
         requires within { number < length rows.now }
-        requires walk { IsWalk (rows_of rows.now) (seen self.old) }
-        requires empty { self.old.stack.items ≡ [] }
-        ensures walk { OnOk result (IsWalk (rows_of rows.now) (seen self.new)) }
-        ensures old { OnOk result (KeepsOld (seen self.old) (seen self.new)) }
-        ensures here { OnOk result (state_at self.new.states.items number ≡ State.New → ⊥) }
-        ensures empty { OnOk result (self.new.stack.items ≡ []) }
+        requires rest { IsAtRest (rows_of rows.now) (seen self.old) }
+        ensures rest { OnOk result (IsAtRest (rows_of rows.now) (seen self.new)) }
+        ensures came { OnOk result (ComesTo number (seen self.old) (seen self.new)) }
     {
         self.begin(rows, number)?;
         while let Some(start) = self.starts.last().copied() {

@@ -1,3 +1,4 @@
 pub mod Leading
 pub mod Stands
 pub mod Items
+pub mod Sized

@@ -2,6 +2,7 @@
 ghost use Rattle.std.specs.Prelude.{◌≡◌, ◌*◌, ◌↔◌, ◌⊎◌, ℕ, IfOk, IsTrue, length, slice_get, true};
 ghost use Rattle.std.specs.List.{Contains};
 ghost use Rattle.tc_auto.specs.Arrows.{AreWithin};
+ghost use Rattle.tc_hedge.specs.Sized.{KeepsSize};
 ghost use Rattle.tc_hedge.specs.Items.{IsOfSomeSchema};
 ghost use Rattle.tc_mat.specs.Matrix.{HasPair, IsComposition, IsMatrix};
 
@@ -50,8 +51,7 @@ fn composition(alloc: Global, first: &Mat, second: &Mat) -> Result<Mat, NoMemory
 fn put_arrows(arrows: &[Arrow], out: &mut Mat)
     requires within { AreWithin out.old.size arrows.now }
     requires matrix { IsMatrix out.old }
-    ensures size { out.new.size ≡ out.old.size }
-    ensures matrix { IsMatrix out.new }
+    ensures kept { KeepsSize out.old out.new }
     ensures pairs { (i j : ℕ) → HasPair out.new i j
         ↔ (HasPair out.old i j ⊎ Contains arrows.now (record { from = i; to = j })) }
 {
@@ -68,6 +68,7 @@ impl<'b> Hedge<'b> {
     ghost use Rattle.tc_auto.specs.declared.auto.Edge.{Edge};
     ghost use Rattle.tc_hedge.specs.Items.{IsAround, IsTakenAround};
     ghost use Rattle.tc_hedge.specs.Leading.{ArePairsAround, ArePairsOf, ArePairsOfText, IsTaken};
+    ghost use Rattle.tc_hedge.specs.Sized.{KeepsSize};
     ghost use Rattle.tc_hedge.specs.Stands.{Stands};
     ghost use Rattle.tc_mat.specs.Matrix.{HasPair, IsMatrix};
     ghost use Rattle.tc_model.specs.Grammars as g;
@@ -164,8 +165,7 @@ impl<'b> Hedge<'b> {
     fn put_around(&self, allowed: &[bool], inner: &Mat, out: &mut Mat)
         requires inner { inner.now.size ≡ a.states self.now.auto }
         requires out { out.old.size ≡ a.states self.now.auto }
-        ensures size { out.new.size ≡ out.old.size }
-        ensures matrix { IsMatrix out.new }
+        ensures kept { KeepsSize out.old out.new }
         ensures pairs { (side : s.Side) (x : g.Grammar) → a.Stands side x self.now.auto → (i j : ℕ)
             → HasPair out.new i j ↔ IsAround x side allowed.now inner.now i j }
     {

@@ -1,3 +1,4 @@
 pub mod Matrix
 pub mod Held
 pub mod Product
+pub mod Factors

@@ -4,16 +4,14 @@
 ghost use Rattle.std.specs.Prelude.{◌≡◌, ◌≢◌, ◌⊎◌, ◌↔◌, ℕ, ◌+◌, ◌*◌, ◌/◌, ◌%◌, ◌^◌, ◌<◌, ◌≤◌, length, IsTrue};
 ghost use Rattle.std.specs.Int.{bit_at};
 ghost use Rattle.tc_mat.specs.Matrix.{words_a_row};
-ghost use Rattle.tc_mat.specs.Product.{IsSet, HasBits, GainsBits, Leads, Told, IsPadded, IsUnit, IsUnitWord};
+ghost use Rattle.tc_mat.specs.Factors.{AreFactors, IsTarget};
+ghost use Rattle.tc_mat.specs.Product.{IsSet, HasBits, GainsBits, Leads, Told, IsUnit, IsUnitWord};
 
 use crate::matrices::words_in_row;
 
 /// Leaves the composition of `a` and `b` in `out`, all three of `n` rows. Behind each number with itself `b` is copied.
 pub(crate) fn multiply(n: u32, a: &[u64], b: &[u64], out: &mut [u64])
-    requires left { length a.now ≡ n * words_a_row n }
-    requires right { length b.now ≡ n * words_a_row n }
-    requires room { length out.old ≡ n * words_a_row n }
-    requires padded { IsPadded n a.now }
+    requires { AreFactors n a.now b.now out.old }
     ensures { HasBits n out.new
         (λ row word place. (by : ℕ) × (by < words_a_row n)
         × Leads n a.now b.now by row word place) }
@@ -72,11 +70,9 @@ fn unit_word(row: usize, word: usize) -> u64
 
 /// Adds what one word of the left leads to, which stands for 64 numbers, to a row.
 fn add_rows(n: u32, told: u64, by: usize, b: &[u64], out: &mut [u64], row: usize)
-    requires right { length b.now ≡ n * words_a_row n }
-    requires room { length out.old ≡ n * words_a_row n }
+    requires target { IsTarget n b.now out.old row }
     requires by { by < words_a_row n }
     requires told { (t : ℕ) → bit_at told t ≡ 1 → (t < 64) × (64 * by + t < n) }
-    requires row { row < n }
     ensures { GainsBits n out.old out.new
         (λ x word place. (x ≡ row) × Told n b.now told by word place) }
 {
@@ -90,10 +86,8 @@ fn add_rows(n: u32, told: u64, by: usize, b: &[u64], out: &mut [u64], row: usize
 
 /// Adds one row of the right to a row.
 fn add_row(n: u32, b: &[u64], from: usize, out: &mut [u64], row: usize)
-    requires right { length b.now ≡ n * words_a_row n }
-    requires room { length out.old ≡ n * words_a_row n }
+    requires target { IsTarget n b.now out.old row }
     requires from { from < n }
-    requires row { row < n }
     ensures { GainsBits n out.old out.new
         (λ x word place. (x ≡ row) × IsSet n b.now from word place) }
 {

@@ -1,7 +1,7 @@
 // Characters that are written as references (XML 1.0, 2.4, 2.11, 3.3.3).
-ghost use Rattle.std.specs.Prelude.{◌≡◌, ◌≤◌, [], ◌∷◌, OnOk, OnErr, IfSome, IfNone, IsTrue, flat_map};
-ghost use Rattle.tc_io.specs.Faults.{Rose};
+ghost use Rattle.std.specs.Prelude.{◌≡◌, [], ◌∷◌, OnOk, OnErr, IfSome, IfNone, IsTrue, flat_map};
 ghost use Rattle.tc_io.specs.Sink.{Appended, WroteFront};
+ghost use Rattle.tc_print.specs.Counting.{CountsFaults};
 ghost use Rattle.tc_print.specs.Pieces.{escaped};
 
 use memchr::{memchr2, memchr3};
@@ -56,13 +56,12 @@ const LONG: usize = 32;
 /// Writes bytes, with references for those that may not stand for themselves. All that stands between
 /// two references is one piece.
 pub fn write_escaped<K: Sink>(within: Within, bytes: &[u8], sink: &mut K) -> Result<(), WriteFault>
-    ensures count { K.faults sink.old ≤ K.faults sink.new }
     ensures ok { OnOk result
         (Appended (K.written sink.old) (K.written sink.new) (flat_map (escaped within) bytes.now)) }
     ensures fault { OnErr result
         (WroteFront (K.written sink.old) (K.written sink.new)
         (flat_map (escaped within) bytes.now)) }
-    ensures rose { OnErr result (Rose (K.faults sink.old) (K.faults sink.new)) }
+    ensures faults { CountsFaults (K.faults sink.old) (K.faults sink.new) result }
 {
     if bytes.len() >= LONG && is_plain(within, bytes) {
         return sink.write(bytes);
@@ -80,10 +79,9 @@ pub fn write_escaped<K: Sink>(within: Within, bytes: &[u8], sink: &mut K) -> Res
 
 /// Writes a piece, unless it is empty.
 fn write_run<K: Sink>(run: &[u8], sink: &mut K) -> Result<(), WriteFault>
-    ensures count { K.faults sink.old ≤ K.faults sink.new }
     ensures ok { OnOk result (Appended (K.written sink.old) (K.written sink.new) run.now) }
     ensures fault { OnErr result (WroteFront (K.written sink.old) (K.written sink.new) run.now) }
-    ensures rose { OnErr result (Rose (K.faults sink.old) (K.faults sink.new)) }
+    ensures faults { CountsFaults (K.faults sink.old) (K.faults sink.new) result }
 {
     if run.is_empty() {
         return Ok(());

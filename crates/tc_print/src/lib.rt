@@ -14,6 +14,7 @@ ghost use Rattle.tc_io.specs.Sink.{Appended, WroteFront};
 ghost use Rattle.tc_model.specs.Printed.{printed, printed_in};
 ghost use Rattle.tc_model.specs.Views.{before, trees};
 ghost use Rattle.tc_model.specs.Trees.{none};
+ghost use Rattle.tc_print.specs.Counting.{CountsFaults};
 ghost use Rattle.tc_print.specs.ReadBack.{IsShallowDocument, IsReadAs};
 
 use escapes::{Within, write_escaped};
@@ -47,14 +48,13 @@ pub fn print<K: Sink>(nodes: &[Node<'_>], sink: &mut K) -> Result<(), WriteFault
 /// Prints trees where this default namespace is in force.
 #[cycle(print)]
 fn print_within<K: Sink>(default: &str, nodes: &[Node<'_>], sink: &mut K) -> Result<(), WriteFault>
-    ensures count { K.faults sink.old ≤ K.faults sink.new }
     ensures ok { OnOk result
         (Appended (K.written sink.old) (K.written sink.new)
         (printed_in default.now (trees nodes.now))) }
     ensures fault { OnErr result
         (WroteFront (K.written sink.old) (K.written sink.new)
         (printed_in default.now (trees nodes.now))) }
-    ensures rose { OnErr result (Rose (K.faults sink.old) (K.faults sink.new)) }
+    ensures faults { CountsFaults (K.faults sink.old) (K.faults sink.new) result }
 {
     for node in nodes {
         print_one(default, node, sink)?;
@@ -65,14 +65,13 @@ fn print_within<K: Sink>(default: &str, nodes: &[Node<'_>], sink: &mut K) -> Res
 /// Prints one tree where this default namespace is in force.
 #[cycle(print)]
 fn print_one<K: Sink>(default: &str, node: &Node<'_>, sink: &mut K) -> Result<(), WriteFault>
-    ensures count { K.faults sink.old ≤ K.faults sink.new }
     ensures ok { OnOk result
         (Appended (K.written sink.old) (K.written sink.new)
         (printed_in default.now (before node.now none))) }
     ensures fault { OnErr result
         (WroteFront (K.written sink.old) (K.written sink.new)
         (printed_in default.now (before node.now none))) }
-    ensures rose { OnErr result (Rose (K.faults sink.old) (K.faults sink.new)) }
+    ensures faults { CountsFaults (K.faults sink.old) (K.faults sink.new) result }
 {
     match node {
         Node::Text(text) => write_escaped(Within::Text, text.as_bytes(), sink),

@@ -2,10 +2,10 @@
 // A short end tag is put together on the stack and written at once; one with a prefix or a name of more than
 // 61 bytes piece by piece.
 ghost use Rattle.std.specs.Prelude.{◌≡◌, ◌≤◌, ◌++◌, codes, length, IfOk, IsTrue, OnOk, OnErr};
-ghost use Rattle.tc_io.specs.Faults.{Rose};
 ghost use Rattle.tc_io.specs.Sink.{Appended, WroteFront};
 ghost use Rattle.tc_model.specs.Printed as p;
 ghost use Rattle.tc_model.specs.Views.{name};
+ghost use Rattle.tc_print.specs.Counting.{CountsFaults};
 ghost use Rattle.tc_print.specs.Pieces.{begun_tag, end_tag};
 
 use crate::escapes::{Within, write_escaped};
@@ -29,7 +29,6 @@ pub fn begin_tag<'a, K: Sink>(
     of: &Name<'a>,
     sink: &mut K,
 ) -> Result<&'a str, WriteFault>
-    ensures count { K.faults sink.old ≤ K.faults sink.new }
     ensures ok { OnOk result
         (Appended (K.written sink.old) (K.written sink.new) (begun_tag default.now (name of.now))) }
     ensures fault { OnErr result
@@ -37,7 +36,7 @@ pub fn begin_tag<'a, K: Sink>(
         (begun_tag default.now (name of.now))) }
     ensures within { IfOk result
         (λ within. within.now ≡ p.default_within default.now (name of.now)) }
-    ensures rose { OnErr result (Rose (K.faults sink.old) (K.faults sink.new)) }
+    ensures faults { CountsFaults (K.faults sink.old) (K.faults sink.new) result }
 {
     sink.write(b"<")?;
     write_tag_name(of, sink)?;
@@ -74,14 +73,13 @@ fn short_end_tag(local: &str) -> ArrayString<64>
 #[inline(never)]
 fn write_short_end_tag<K: Sink>(local: &str, sink: &mut K) -> Result<(), WriteFault>
     requires { length local.now ≤ 61 }
-    ensures count { K.faults sink.old ≤ K.faults sink.new }
     ensures ok { OnOk result
         (Appended (K.written sink.old) (K.written sink.new)
         (codes "</" ++ local.now ++ codes ">")) }
     ensures fault { OnErr result
         (WroteFront (K.written sink.old) (K.written sink.new)
         (codes "</" ++ local.now ++ codes ">")) }
-    ensures rose { OnErr result (Rose (K.faults sink.old) (K.faults sink.new)) }
+    ensures faults { CountsFaults (K.faults sink.old) (K.faults sink.new) result }
 {
     let tag = short_end_tag(local);
     sink.write(tag.as_str().as_bytes())
@@ -89,12 +87,11 @@ fn write_short_end_tag<K: Sink>(local: &str, sink: &mut K) -> Result<(), WriteFa
 
 /// Writes an end tag.
 pub fn write_end_tag<K: Sink>(of: &Name<'_>, sink: &mut K) -> Result<(), WriteFault>
-    ensures count { K.faults sink.old ≤ K.faults sink.new }
     ensures ok { OnOk result
         (Appended (K.written sink.old) (K.written sink.new) (end_tag (name of.now))) }
     ensures fault { OnErr result
         (WroteFront (K.written sink.old) (K.written sink.new) (end_tag (name of.now))) }
-    ensures rose { OnErr result (Rose (K.faults sink.old) (K.faults sink.new)) }
+    ensures faults { CountsFaults (K.faults sink.old) (K.faults sink.new) result }
 {
     if is_short(of) {
         return write_short_end_tag(of.local, sink);
@@ -104,12 +101,11 @@ pub fn write_end_tag<K: Sink>(of: &Name<'_>, sink: &mut K) -> Result<(), WriteFa
 
 /// Writes an end tag piece by piece.
 fn write_long_end_tag<K: Sink>(of: &Name<'_>, sink: &mut K) -> Result<(), WriteFault>
-    ensures count { K.faults sink.old ≤ K.faults sink.new }
     ensures ok { OnOk result
         (Appended (K.written sink.old) (K.written sink.new) (end_tag (name of.now))) }
     ensures fault { OnErr result
         (WroteFront (K.written sink.old) (K.written sink.new) (end_tag (name of.now))) }
-    ensures rose { OnErr result (Rose (K.faults sink.old) (K.faults sink.new)) }
+    ensures faults { CountsFaults (K.faults sink.old) (K.faults sink.new) result }
 {
     sink.write(b"</")?;
     write_tag_name(of, sink)?;
@@ -118,12 +114,11 @@ fn write_long_end_tag<K: Sink>(of: &Name<'_>, sink: &mut K) -> Result<(), WriteF
 
 /// Writes the name in a tag.
 fn write_tag_name<K: Sink>(of: &Name<'_>, sink: &mut K) -> Result<(), WriteFault>
-    ensures count { K.faults sink.old ≤ K.faults sink.new }
     ensures ok { OnOk result
         (Appended (K.written sink.old) (K.written sink.new) (p.tag_name (name of.now))) }
     ensures fault { OnErr result
         (WroteFront (K.written sink.old) (K.written sink.new) (p.tag_name (name of.now))) }
-    ensures rose { OnErr result (Rose (K.faults sink.old) (K.faults sink.new)) }
+    ensures faults { CountsFaults (K.faults sink.old) (K.faults sink.new) result }
 {
     if of.uri == XML_URI {
         sink.write(b"xml:")?;
@@ -138,7 +133,6 @@ fn write_declaration<'a, K: Sink>(
     of: &Name<'a>,
     sink: &mut K,
 ) -> Result<&'a str, WriteFault>
-    ensures count { K.faults sink.old ≤ K.faults sink.new }
     ensures ok { OnOk result
         (Appended (K.written sink.old) (K.written sink.new)
         (p.declaration default.now (name of.now))) }
@@ -147,7 +141,7 @@ fn write_declaration<'a, K: Sink>(
         (p.declaration default.now (name of.now))) }
     ensures within { IfOk result
         (λ within. within.now ≡ p.default_within default.now (name of.now)) }
-    ensures rose { OnErr result (Rose (K.faults sink.old) (K.faults sink.new)) }
+    ensures faults { CountsFaults (K.faults sink.old) (K.faults sink.new) result }
 {
     if needs_no_declaration(default, of) {
         return Ok(default);

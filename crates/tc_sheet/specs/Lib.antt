@@ -12,3 +12,5 @@ pub mod Tables
 pub mod Numbers
 pub mod Begun
 pub mod FaultClauses
+pub mod OneAttribute
+pub mod Called

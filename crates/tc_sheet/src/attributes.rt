@@ -16,6 +16,7 @@ ghost use Rattle.tc_scan.specs.Views.{written_name};
 ghost use Rattle.tc_sheet.specs.Changes.{exchanged};
 ghost use Rattle.tc_sheet.specs.Constructs.{IsRoot, MustHave, IsWeighed, AreWeighedAmong, IsNeverRefused, plain};
 ghost use Rattle.tc_sheet.specs.Constructs as forms;
+ghost use Rattle.tc_sheet.specs.OneAttribute.{IsOfLiteral, IsOfXslt};
 ghost use Rattle.tc_sheet.specs.Readings.{Refuses, IsFaultOf, IsAttribute, HasAttributesText, HasNoAttributes, HasNoOptional, HasNoRequired, alone, attributes_of, scope_of};
 
 use crate::elements::{XSL, is_among, is_xsl};
@@ -52,8 +53,7 @@ pub(crate) fn attribute_of<'e, 'b>(element: &'e RawElem<'b>, local: &str) -> Opt
 
 /// The refusal of an attribute that an XSLT element must not have.
 fn unexpected(element: &RawElem<'_>, attribute: &RawAttr<'_>) -> SheetFault
-    requires xslt { (see.name element.now.name).uri ≡ xsl_uri }
-    requires has { Contains (attributes_of element.now) (see.attribute attribute.now) }
+    requires own { IsOfXslt element.now attribute.now }
     requires plain { IsTrue (is_empty (see.attribute attribute.now).name.uri) }
     requires unweighed { IsWeighed (see.name element.now.name) (see.attribute attribute.now).name
         → ⊥ }
@@ -97,8 +97,7 @@ fn check_attribute(
     attribute: &RawAttr<'_>,
     locals: &[&str],
 ) -> Result<(), SheetFault>
-    requires xslt { (see.name element.now.name).uri ≡ xsl_uri }
-    requires has { Contains (attributes_of element.now) (see.attribute attribute.now) }
+    requires own { IsOfXslt element.now attribute.now }
     requires weighed { AreWeighedAmong (map (λ w. w.now) locals.now) (see.name element.now.name) }
     ensures ok { OnOk result
         (IsTrue
@@ -144,8 +143,7 @@ fn is_passed_over(attribute: &RawAttr<'_>) -> bool
 
 /// The refusal of an attribute that a literal element must not have.
 fn unexpected_in_literal(element: &RawElem<'_>, attribute: &RawAttr<'_>) -> SheetFault
-    requires literal { (see.name element.now.name).uri ≢ xsl_uri }
-    requires has { Contains (attributes_of element.now) (see.attribute attribute.now) }
+    requires own { IsOfLiteral element.now attribute.now }
     requires xslt { (see.attribute attribute.now).name.uri ≡ xsl_uri }
     requires other { (see.attribute attribute.now).name.local ≢ codes "exclude-result-prefixes" }
     ensures { IsFaultOf result (alone element.now) }
@@ -159,8 +157,7 @@ fn unexpected_in_literal(element: &RawElem<'_>, attribute: &RawAttr<'_>) -> Shee
 
 /// Checks that an attribute of a literal element may stand there.
 fn check_literal_attribute(element: &RawElem<'_>, attribute: &RawAttr<'_>) -> Result<(), SheetFault>
-    requires literal { (see.name element.now.name).uri ≢ xsl_uri }
-    requires has { Contains (attributes_of element.now) (see.attribute attribute.now) }
+    requires { IsOfLiteral element.now attribute.now }
     ensures ok { OnOk result
         (IsTrue (not (bytes_eq (see.attribute attribute.now).name.uri xsl_uri)
         || bytes_eq (see.attribute attribute.now).name.local (codes "exclude-result-prefixes"))) }

@@ -6,6 +6,7 @@ ghost use Rattle.tc_model.specs.Views as see;
 ghost use Rattle.tc_model.specs.SheetTextPhrases as phrases;
 ghost use Rattle.tc_model.specs.SheetTextPhrases.{xsl_uri, IsXsl};
 ghost use Rattle.tc_model.specs.SheetTextTrees as trees;
+ghost use Rattle.tc_sheet.specs.Called.{IsChoose};
 ghost use Rattle.tc_sheet.specs.Begun.{IsBegunBy, IsBegun, around as around_seen};
 ghost use Rattle.tc_sheet.specs.Constructs.{MustHave, plain};
 ghost use Rattle.tc_sheet.specs.Constructs as forms;
@@ -418,9 +419,7 @@ fn chosen<'b>(
     branches: &'b [WrittenBranch<'b>],
     last: &'b [Written<'b>],
 ) -> Result<Option<Written<'b>>, SheetFault>
-    requires choose { phrases.instruction_of (see.name element.now.name) ≡ Some phrases.i_choose }
-    requires only { phrases.HasOnly [] (attributes_of element.now) }
-    requires held { phrases.AreBranches (see.raw_trees element.now.kids.now)
+    requires { IsChoose element.now
         (branches_before branches.now (trees.w_otherwise (body_of last.now))) }
     ensures ok { IfOk result (λ w. IsElementItem element.now (put w)) }
     ensures no { IfErr result

@@ -1,11 +1,12 @@
 // The calls of templates: whether each has its template, and whether one leads back to the named template in which
 // it stands.
 ghost use Rattle.std.specs.Prelude.{◌≡◌, ◌++◌, ◌<◌, ◌∷◌, [], All, None, Some, length, map, true, IfOk, IfErr, OnOk, option_map};
-ghost use Rattle.std.specs.List.{IsDistinct, list_any};
+ghost use Rattle.std.specs.List.{list_any};
 ghost use Rattle.tc_graph.specs.Graph.{rows_of};
 ghost use Rattle.tc_model.specs.Names.{same_name};
 ghost use Rattle.tc_model.specs.Views as see;
 ghost use Rattle.tc_model.specs.SheetText as model;
+ghost use Rattle.tc_sheet.specs.Called.{AreNamesOf};
 ghost use Rattle.tc_sheet.specs.Graphs.{IsCallFault, IsFirstUndefined, IsWithin, alone, callee_of, caller_of, calls_from, first_back, first_undefined, leads_back as back, numbered_from, row_of};
 ghost use Rattle.tc_sheet.specs.Views.{body as body_seen, branches_of, written, template as template_seen};
 ghost use Rattle.tc_sheet.specs.SeenCalls.{call as seen_call, names_seen, site as seen_site};
@@ -256,8 +257,7 @@ pub(crate) fn check_calls<'b>(
     names: &Names<'b>,
     templates: &[Template<'b>],
 ) -> Result<(), SheetFault>
-    requires names { names_seen names.now ≡ model.names_of (map template_seen templates.now) }
-    requires once { IsDistinct same_name (names_seen names.now) }
+    requires { AreNamesOf (map template_seen templates.now) (names_seen names.now) }
     ensures defined { OnOk result
         (All (λ c. model.IsDefined (map template_seen templates.now) c.call)
         (model.calls_of (map template_seen templates.now))) }

@@ -1,5 +1,5 @@
 -- Definitions by their names.
-use Rattle.std.specs.Prelude.{◌≡◌, ◌<◌, ℕ, Bool, true, false, ◌&&◌, List, [], ◌∷◌, length, map, bytes_eq}
+use Rattle.std.specs.Prelude.{◌≡◌, ◌<◌, ℕ, Bool, true, false, ◌&&◌, ◌||◌, List, [], ◌∷◌, length, map, bytes_eq}
 use Rattle.std.specs.List.{list_any}
 use Rattle.tc_model.specs.CompactSyntaxTrees.{Joins, plain, by_choice, by_interleave, Definition}
 use Rattle.tc_model.specs.SimplifiesParts.{definitions_of, is_choice}
@@ -27,6 +27,14 @@ pub record IsGroup (front : List Definition) (g : Group) : Type 0 where
   pub plain : g.is_plain ≡ any_of is_plain g.name.now front
   pub choice : g.is_choice ≡ any_of is_choice g.name.now front
   pub interleave : g.is_interleave ≡ any_of is_interleave g.name.now front
+
+-- the operator of one more definition is noted
+pub record Notes (j : Joins) (old new : Group) : Type 0 where
+  pub plain : new.is_plain ≡ (old.is_plain || is_plain j)
+  pub choice : new.is_choice ≡ (old.is_choice || is_choice j)
+  pub interleave : new.is_interleave ≡ (old.is_interleave || is_interleave j)
+  pub name : new.name ≡ old.name
+  pub bodies : new.bodies ≡ old.bodies
 
 -- a group of one definition
 pub record StartsGroup (d : Definition) (g : Group) : Type 0 where

@@ -10,3 +10,4 @@ pub mod Refused
 pub mod Totals
 pub mod Resolves
 pub mod Laws
+pub mod Walked

@@ -1,6 +1,5 @@
 // The grammar of a syntax tree without faults.
-ghost use Rattle.std.specs.Prelude.{◌≡◌, ◌<◌, ◌≤◌, ◌∷◌, [], IfErr, IfOk, OnOk, length, map};
-ghost use Rattle.std.specs.List.{All};
+ghost use Rattle.std.specs.Prelude.{◌≡◌, ◌≤◌, ◌∷◌, [], IfErr, IfOk, OnOk, length, map};
 ghost use Rattle.tc_model.specs.CompactSyntaxLawful.{IsLawfulSyntax};
 ghost use Rattle.tc_model.specs.CompactSyntaxTrees as t;
 ghost use Rattle.tc_model.specs.Grammars as g;
@@ -12,6 +11,7 @@ ghost use Rattle.tc_simple.specs.Refused.{Refuses};
 ghost use Rattle.tc_simple.specs.Resolves.{Resolves};
 ghost use Rattle.tc_model.specs.Views as seen;
 ghost use Rattle.tc_simple.specs.Nodes.{elements_of, see_element, HasNumbersBelow};
+ghost use Rattle.tc_simple.specs.Walked.{AreCounted, AreMarks, AreNumbers, IsSound};
 ghost use Rattle.tc_simple.specs.Totals.{element_patterns_of, total_of, IsSizeOf};
 
 use crate::becomes::{name_class, pattern};
@@ -97,10 +97,8 @@ fn whole_size<'b>(
     walk: &Walk<'b>,
     found: &[Elem<'b>],
 ) -> Result<Size, NoMemory>
-    requires start { start < length table.now.patterns.items }
-    requires marks { length marks.now ≡ length table.now.patterns.items }
-    requires numbers { HasNumbersBelow table.now (length table.now.patterns.items) }
-    requires order { All (λ k. k < length table.now.patterns.items) walk.now.order.items }
+    requires marks { AreMarks table.now marks.now }
+    requires order { AreNumbers table.now start walk.now.order.items }
     ensures { IfOk result
         (λ size. (s : t.Syntax) → IsLawfulSyntax s → IsFaultless s
         → Resolves s table.now start marks.now walk.now.states.items walk.now.order.items
@@ -139,16 +137,11 @@ pub fn counted<'b>(
     marks: &[bool],
     walk: &Walk<'b>,
 ) -> Result<&'b [Elem<'b>], SimpleFault>
-    requires lawful { IsLawfulSyntax (see.syntax syntax.now) }
-    requires faultless { IsFaultless (see.syntax syntax.now) }
-    requires resolves { Resolves
+    requires { IsSound
         (see.syntax syntax.now) table.now start marks.now walk.now.states.items
         walk.now.order.items }
-    ensures elements { IfOk result (λ v. map see_element v.now
-        ≡ elements_of table.now marks.now (see.syntax syntax.now).definitions) }
-    ensures few { IfOk result (λ v. length v.now ≤ 256) }
-    ensures within { IfOk result (λ v. (grammar : g.Grammar)
-        × Simplifies (see.syntax syntax.now) grammar × IsWithinCounts grammar) }
+    ensures ok { IfOk result
+        (λ v. AreCounted (see.syntax syntax.now) table.now marks.now v.now) }
     ensures err { IfErr result (λ e. Refuses (see.syntax syntax.now) e) }
 {
     let found = elements(arena, table, marks, syntax)?;
@@ -166,10 +159,8 @@ pub fn built<'b>(
     walk: &Walk<'b>,
     found: &[Elem<'b>],
 ) -> Result<Grammar<'b>, NoMemory>
-    requires start { start < length table.now.patterns.items }
-    requires marks { length marks.now ≡ length table.now.patterns.items }
-    requires numbers { HasNumbersBelow table.now (length table.now.patterns.items) }
-    requires order { All (λ k. k < length table.now.patterns.items) walk.now.order.items }
+    requires marks { AreMarks table.now marks.now }
+    requires order { AreNumbers table.now start walk.now.order.items }
     requires few { length found.now ≤ 256 }
     ensures { IfOk result
         (λ grammar. (s : t.Syntax) → IsLawfulSyntax s → IsFaultless s

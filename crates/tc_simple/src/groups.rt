@@ -23,9 +23,7 @@ pub struct Group<'b> {
 }
 
 impl<'b> Group<'b> {
-    ghost use Rattle.std.specs.Prelude.{◌||◌};
-    ghost use Rattle.tc_model.specs.SimplifiesParts.{is_choice};
-    ghost use Rattle.tc_simple.specs.Groups.{IsGroup, StartsGroup, any_of, is_interleave, is_plain};
+    ghost use Rattle.tc_simple.specs.Groups.{IsGroup, Notes, StartsGroup, any_of};
 
     /// The group of one definition.
     fn of(arena: &'b Bump, def: &Def<'b>) -> Result<Group<'b>, NoMemory>
@@ -54,12 +52,7 @@ impl<'b> Group<'b> {
 
     /// Notes the operator of one more definition.
     fn note(&mut self, joins: Joins)
-        ensures plain { self.new.is_plain ≡ (self.old.is_plain || is_plain (see_joins joins)) }
-        ensures choice { self.new.is_choice ≡ (self.old.is_choice || is_choice (see_joins joins)) }
-        ensures interleave { self.new.is_interleave
-            ≡ (self.old.is_interleave || is_interleave (see_joins joins)) }
-        ensures name { self.new.name ≡ self.old.name }
-        ensures bodies { self.new.bodies ≡ self.old.bodies }
+        ensures { Notes (see_joins joins) self.old self.new }
     {
         match joins {
             Joins::Plain => self.is_plain = true,

@@ -5,17 +5,16 @@
 //! that are reached are numbered by a walk over the text, and nothing is sorted.
 #![tactic(auto)]
 
-ghost use Rattle.std.specs.Prelude.{◌≡◌, None, IfErr, IfOk};
+ghost use Rattle.std.specs.Prelude.{IfErr, IfOk};
 ghost use Rattle.tc_model.specs.CompactSyntaxLawful.{IsLawfulSyntax};
 ghost use Rattle.tc_model.specs.Views as seen;
 ghost use Rattle.tc_model.specs.Simplifies.{Simplifies};
 ghost use Rattle.tc_model.specs.SimplifiesCounts.{IsWithinCounts};
-ghost use Rattle.tc_model.specs.SimplifiesFaults.{twice_at, undefined_at};
 ghost use Rattle.tc_rnc.specs.Views as see;
 ghost use Rattle.tc_simple.specs.Laws.{HasGrammarOrFault};
 ghost use Rattle.tc_simple.specs.Refused.{Refuses};
-ghost use Rattle.tc_simple.specs.Resolves.{Resolves};
 ghost use Rattle.tc_simple.specs.Tables.{IsTable};
+ghost use Rattle.tc_simple.specs.Walked.{IsGrammar, IsResolved};
 
 mod becomes;
 mod checks;
@@ -61,8 +60,7 @@ fn of_table<'b>(
 ) -> Result<Grammar<'b>, SimpleFault>
     requires lawful { IsLawfulSyntax (see.syntax syntax.now) }
     requires table { IsTable (see.syntax syntax.now) table.now }
-    ensures grammar { IfOk result (λ g. Simplifies (see.syntax syntax.now) (seen.grammar g)) }
-    ensures within { IfOk result (λ g. IsWithinCounts (seen.grammar g)) }
+    ensures grammar { IfOk result (λ g. IsGrammar (see.syntax syntax.now) (seen.grammar g)) }
     ensures err { IfErr result (λ e. Refuses (see.syntax syntax.now) e) }
 {
     let start = defined_start(table, syntax)?;
@@ -80,14 +78,10 @@ fn resolved<'b>(
     marks: &[bool],
     walked: &Walk<'b>,
 ) -> Result<Grammar<'b>, SimpleFault>
-    requires lawful { IsLawfulSyntax (see.syntax syntax.now) }
-    requires once { twice_at (see.syntax syntax.now) ≡ None }
-    requires defined { undefined_at (see.syntax syntax.now) ≡ None }
-    requires resolves { Resolves
+    requires { IsResolved
         (see.syntax syntax.now) table.now start marks.now walked.now.states.items
         walked.now.order.items }
-    ensures grammar { IfOk result (λ g. Simplifies (see.syntax syntax.now) (seen.grammar g)) }
-    ensures within { IfOk result (λ g. IsWithinCounts (seen.grammar g)) }
+    ensures grammar { IfOk result (λ g. IsGrammar (see.syntax syntax.now) (seen.grammar g)) }
     ensures err { IfErr result (λ e. Refuses (see.syntax syntax.now) e) }
 {
     check(arena, syntax, table, start, marks, walked)?;

@@ -6,6 +6,7 @@ ghost use Rattle.std.specs.List.{filter_map, list_all};
 ghost use Rattle.tc_model.specs.Views.{place as see_place};
 ghost use Rattle.tc_model.specs.SimplifiesFaults.{may_start as may_start_of};
 ghost use Rattle.tc_rnc.specs.Views as see;
+ghost use Rattle.tc_simple.specs.Walked.{AreWalked};
 ghost use Rattle.tc_simple.specs.Nodes.{loop_at, loops_below, marked_loops, nodes, nodes_of_all, HasNumbersBelow, IsFirstLoop, IsLeast, IsLesser, StartsBadly, StartsWell};
 ghost use Rattle.tc_simple.specs.Places.{maybe_place};
 
@@ -129,9 +130,7 @@ fn loops<'b>(
     walk: &Walk<'b>,
     marks: &[bool],
 ) -> Result<&'b [Place], NoMemory>
-    requires marks { length marks.now ≡ length table.now.patterns.items }
-    requires states { length walk.now.states.items ≡ length table.now.patterns.items }
-    requires numbers { HasNumbersBelow table.now (length walk.now.states.items) }
+    requires { AreWalked table.now walk.now.states.items marks.now }
     ensures { IfOk result (λ v. map see_place v.now
         ≡ loops_below table.now walk.now.states.items marks.now (length table.now.patterns.items)) }
 {
@@ -151,9 +150,7 @@ fn add_marked<'b>(
     found: &mut Vec<Place, &'b Bump>,
 ) -> Result<(), NoMemory>
     requires within { number < length table.now.patterns.items }
-    requires marks { length marks.now ≡ length table.now.patterns.items }
-    requires states { length walk.now.states.items ≡ length table.now.patterns.items }
-    requires numbers { HasNumbersBelow table.now (length walk.now.states.items) }
+    requires walked { AreWalked table.now walk.now.states.items marks.now }
     ensures { OnOk result (map see_place found.new.items ≡ map see_place found.old.items
         ++ marked_loops table.now walk.now.states.items marks.now number) }
 {
@@ -171,9 +168,7 @@ pub fn first_loop<'b>(
     walk: &Walk<'b>,
     marks: &[bool],
 ) -> Result<Option<Place>, NoMemory>
-    requires marks { length marks.now ≡ length table.now.patterns.items }
-    requires states { length walk.now.states.items ≡ length table.now.patterns.items }
-    requires numbers { HasNumbersBelow table.now (length walk.now.states.items) }
+    requires { AreWalked table.now walk.now.states.items marks.now }
     ensures { IfOk result
         (λ o. IsFirstLoop table.now walk.now.states.items marks.now (maybe_place o)) }
 {

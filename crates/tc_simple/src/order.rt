@@ -3,8 +3,9 @@ ghost use Rattle.std.specs.Prelude.{◌≡◌, ◌<◌, ◌≤◌, ℕ, List, le
 ghost use Rattle.std.specs.List.{All};
 ghost use Rattle.tc_model.specs.CompactSyntaxTrees as t;
 ghost use Rattle.tc_model.specs.Simplifies.{Element};
-ghost use Rattle.tc_simple.specs.Nodes.{see_element, HasNumbersBelow};
+ghost use Rattle.tc_simple.specs.Nodes.{see_element};
 ghost use Rattle.tc_simple.specs.Orders.{AreMade, AreSized, IsOrderly, PutsPattern, PutsSize};
+ghost use Rattle.tc_simple.specs.Walked.{AreMarks, IsPlace};
 
 use crate::becomes::pattern;
 use crate::counts::{Size, measure};
@@ -17,10 +18,8 @@ use tc_model::Pat;
 
 /// Works out the size of a definition, if it is marked.
 fn put_size(table: &Table<'_>, marks: &[bool], number: usize, sizes: &mut [Size])
-    requires within { number < length table.now.patterns.items }
-    requires marks { length marks.now ≡ length table.now.patterns.items }
-    requires sizes { length sizes.old ≡ length table.now.patterns.items }
-    requires numbers { HasNumbersBelow table.now (length table.now.patterns.items) }
+    requires marks { AreMarks table.now marks.now }
+    requires place { IsPlace table.now number (length sizes.old) }
     ensures { PutsSize table.now marks.now number sizes.old sizes.new }
 {
     if !marks[number] {
@@ -37,8 +36,7 @@ pub fn all_sizes<'b>(
     walk: &Walk<'b>,
     marks: &[bool],
 ) -> Result<&'b [Size], NoMemory>
-    requires marks { length marks.now ≡ length table.now.patterns.items }
-    requires numbers { HasNumbersBelow table.now (length table.now.patterns.items) }
+    requires marks { AreMarks table.now marks.now }
     requires order { All (λ k. k < length table.now.patterns.items) walk.now.order.items }
     ensures { IfOk result
         (λ v. (length v.now ≡ length table.now.patterns.items)
@@ -66,10 +64,8 @@ fn put_pattern<'b>(
     elements: &[Elem<'b>],
     made: &mut [Pat<'b>],
 ) -> Result<(), NoMemory>
-    requires within { number < length table.now.patterns.items }
-    requires marks { length marks.now ≡ length table.now.patterns.items }
-    requires made { length made.old ≡ length table.now.patterns.items }
-    requires numbers { HasNumbersBelow table.now (length table.now.patterns.items) }
+    requires marks { AreMarks table.now marks.now }
+    requires place { IsPlace table.now number (length made.old) }
     requires few { length elements.now ≤ 256 }
     ensures { OnOk result
         (PutsPattern table.now marks.now (map see_element elements.now) number made.old made.new) }
@@ -90,8 +86,7 @@ pub fn all_patterns<'b>(
     marks: &[bool],
     elements: &[Elem<'b>],
 ) -> Result<&'b [Pat<'b>], NoMemory>
-    requires marks { length marks.now ≡ length table.now.patterns.items }
-    requires numbers { HasNumbersBelow table.now (length table.now.patterns.items) }
+    requires marks { AreMarks table.now marks.now }
     requires order { All (λ k. k < length table.now.patterns.items) walk.now.order.items }
     requires few { length elements.now ≤ 256 }
     ensures { IfOk result

@@ -2,7 +2,7 @@
 ghost use Rattle.std.specs.Prelude.{◌≡◌, ◌<◌, ℕ, [], None, Some, IfErr, IfOk, OnOk, length, true, false};
 ghost use Rattle.tc_model.specs.CompactSyntaxTrees as t;
 ghost use Rattle.tc_model.specs.Views.{place as see_place};
-ghost use Rattle.tc_model.specs.SimplifiesFaults.{first_definition, twice_at, undefined_at, IsFaultless};
+ghost use Rattle.tc_model.specs.SimplifiesFaults.{first_definition, IsFaultless};
 ghost use Rattle.tc_model.specs.SimplifiesParts.{definitions_of};
 ghost use Rattle.tc_rnc.specs.Views as see;
 ghost use Rattle.tc_graph.specs.Graph.{IsReached};
@@ -10,6 +10,7 @@ ghost use Rattle.tc_simple.specs.Nodes.{link_rows};
 ghost use Rattle.tc_simple.specs.Refused.{Refuses};
 ghost use Rattle.tc_simple.specs.Resolves.{Resolves};
 ghost use Rattle.tc_simple.specs.Tables.{IsTable, number_of};
+ghost use Rattle.tc_simple.specs.Walked.{HasNames};
 ghost use Rattle.tc_graph.specs.Walks.{AreComponents};
 
 use crate::checks::{bad_except, undefined};
@@ -25,8 +26,7 @@ use tc_rnc::Syntax;
 /// The number of `start`, where each name is defined once and `start` and all references are.
 pub fn defined_start<'b>(table: &Table<'b>, syntax: &Syntax<'b>) -> Result<usize, SimpleFault>
     requires { IsTable (see.syntax syntax.now) table.now }
-    ensures once { IfOk result (λ start. twice_at (see.syntax syntax.now) ≡ None) }
-    ensures defined { IfOk result (λ start. undefined_at (see.syntax syntax.now) ≡ None) }
+    ensures names { OnOk result (HasNames (see.syntax syntax.now)) }
     ensures start { IfOk result (λ start. number_of table.now [] ≡ Some start) }
     ensures err { IfErr result (λ e. Refuses (see.syntax syntax.now) e) }
 {
@@ -93,8 +93,7 @@ pub fn check<'b>(
     requires resolves { Resolves
         (see.syntax syntax.now) table.now start marks.now walk.now.states.items
         walk.now.order.items }
-    requires once { twice_at (see.syntax syntax.now) ≡ None }
-    requires defined { undefined_at (see.syntax syntax.now) ≡ None }
+    requires names { HasNames (see.syntax syntax.now) }
     ensures ok { OnOk result (IsFaultless (see.syntax syntax.now)) }
     ensures err { IfErr result (λ e. Refuses (see.syntax syntax.now) e) }
 {

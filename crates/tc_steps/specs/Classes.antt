@@ -19,6 +19,16 @@ pub record IsSized (automaton : Auto) (c : Class) : Type 0 where
 abbrev pub AreSized : Auto → List Class → Type 0
 AreSized automaton classes = (k : ℕ) (c : Class) → slice_get classes k ≡ Some c → IsSized automaton c
 
+-- what was worked out of a name
+pub record IsClassOf (x : Grammar) (n : ExpandedName) (c : Class) : Type 0 where
+  pub allowed : AreAllowed x n c.numbers
+  pub led : AreLed x n none c.firsts
+
+-- something is known now; what was known stays
+pub record Learns (old new : Class) : Type 0 where
+  pub known : new.known ≡ true
+  pub stays : old.known ≡ true → new ≡ old
+
 -- what is known of a symbol is right for each of its names
 pub record IsClass (x : Grammar) (symbols : List Mention) (symbol : ℕ) (c : Class) : Type 0 where
   pub allowed : c.known ≡ true → (n : ExpandedName) → symbol_of symbols n ≡ symbol → AreAllowed x n c.numbers

@@ -4,3 +4,4 @@ pub mod Open
 pub mod Numbered
 pub mod Moving
 pub mod Judged
+pub mod Sets

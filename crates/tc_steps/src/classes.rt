@@ -3,9 +3,8 @@ ghost use Rattle.std.specs.Prelude.{◌≡◌, ◌+◌, IfOk, false, true};
 ghost use Rattle.tc_auto.specs.Stands as a;
 ghost use Rattle.tc_model.specs.Grammars as g;
 ghost use Rattle.tc_model.specs.States as s;
-ghost use Rattle.tc_model.specs.Trees as t;
 ghost use Rattle.tc_model.specs.Views as see;
-ghost use Rattle.tc_steps.specs.Led.{AreAllowed, AreLed};
+ghost use Rattle.tc_steps.specs.Classes.{IsClassOf, IsSized, Learns};
 
 use crate::patterns::add_allowed;
 use crate::steps::enter;
@@ -43,33 +42,25 @@ impl Class {
 
     /// Works out what a name is.
     fn learn(&mut self, automaton: &Auto<'_>, name: &Name<'_>)
-        requires numbers { self.old.numbers.size ≡ a.patterns automaton.now + 1 }
-        requires firsts { self.old.firsts.size ≡ a.states automaton.now }
+        requires { IsSized automaton.now self.old }
         ensures known { self.new.known ≡ true }
-        ensures numbers { self.new.numbers.size ≡ self.old.numbers.size }
-        ensures firsts { self.new.firsts.size ≡ self.old.firsts.size }
-        ensures allowed { (x : g.Grammar) → a.Stands s.input x automaton.now
-            → AreAllowed x (see.name name.now) self.new.numbers }
-        ensures led { (x : g.Grammar) → a.Stands s.input x automaton.now
-            → AreLed x (see.name name.now) t.none self.new.firsts }
+        ensures sized { IsSized automaton.now self.new }
+        ensures right { (x : g.Grammar) → a.Stands s.input x automaton.now
+            → IsClassOf x (see.name name.now) self.new }
     {
         self.numbers.clear();
         add_allowed(automaton, name, &mut self.numbers);
         enter(automaton, &self.numbers, &mut self.firsts);
         self.known = true;
     }
+
     /// Works out what a name is, unless a name of the symbol was met.
     pub(crate) fn meet(&mut self, automaton: &Auto<'_>, name: &Name<'_>)
-        requires numbers { self.old.numbers.size ≡ a.patterns automaton.now + 1 }
-        requires firsts { self.old.firsts.size ≡ a.states automaton.now }
-        ensures known { self.new.known ≡ true }
-        ensures numbers { self.new.numbers.size ≡ self.old.numbers.size }
-        ensures firsts { self.new.firsts.size ≡ self.old.firsts.size }
-        ensures stays { self.old.known ≡ true → self.new ≡ self.old }
-        ensures allowed { self.old.known ≡ false → (x : g.Grammar)
-            → a.Stands s.input x automaton.now → AreAllowed x (see.name name.now) self.new.numbers }
-        ensures led { self.old.known ≡ false → (x : g.Grammar) → a.Stands s.input x automaton.now
-            → AreLed x (see.name name.now) t.none self.new.firsts }
+        requires { IsSized automaton.now self.old }
+        ensures learns { Learns self.old self.new }
+        ensures sized { IsSized automaton.now self.new }
+        ensures right { self.old.known ≡ false → (x : g.Grammar) → a.Stands s.input x automaton.now
+            → IsClassOf x (see.name name.now) self.new }
     {
         if self.known {
             return;

@@ -48,8 +48,7 @@ fn is_reached(automaton: &Auto<'_>, states: &Set, number: u32) -> bool
 
 /// Whether an element pattern is one of these, and its content accepts in one of the states.
 pub(crate) fn is_taken(automaton: &Auto<'_>, numbers: &Set, states: &Set, number: u32) -> bool
-    requires from_one { 1 ≤ number }
-    requires within { number ≤ a.patterns automaton.now }
+    requires within { (1 ≤ number) × (number ≤ a.patterns automaton.now) }
     requires numbers { numbers.now.size ≡ a.patterns automaton.now + 1 }
     requires size { states.now.size ≡ a.states automaton.now }
     ensures { (x : g.Grammar) → a.Stands s.input x automaton.now → IsTrue result

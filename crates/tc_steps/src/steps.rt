@@ -7,6 +7,7 @@ ghost use Rattle.tc_model.specs.States as s;
 ghost use Rattle.tc_model.specs.Trees as t;
 ghost use Rattle.tc_sets.specs.Numbers.{Has, HasNone};
 ghost use Rattle.tc_steps.specs.Led.{AreAllowed, AreLed, IsAfterElement, IsTaken};
+ghost use Rattle.tc_steps.specs.Sets.{AreForElement, AreForText};
 
 use crate::arrows::{add_ends, replace};
 use crate::patterns::is_taken;
@@ -31,8 +32,7 @@ pub(crate) fn enter(automaton: &Auto<'_>, numbers: &Set, states: &mut Set)
 
 /// Goes over a text that isn't white space alone; the states in `next` are lost.
 pub(crate) fn pass_text(automaton: &Auto<'_>, states: &mut Set, next: &mut Set)
-    requires size { states.old.size ≡ a.states automaton.now }
-    requires next { next.old.size ≡ a.states automaton.now }
+    requires { AreForText automaton.now states.old next.old }
     ensures size { states.new.size ≡ states.old.size }
     ensures next { next.new.size ≡ next.old.size }
     ensures led { (x : g.Grammar) (n : ExpandedName) (kids : t.Trees) (text : List ℕ)
@@ -47,10 +47,7 @@ pub(crate) fn pass_text(automaton: &Auto<'_>, states: &mut Set, next: &mut Set)
 /// Adds the states to which an element leads some states: one that these element patterns allow, whose children lead
 /// to these ends.
 fn add_after(automaton: &Auto<'_>, numbers: &Set, ends: &Set, states: &Set, next: &mut Set)
-    requires numbers { numbers.now.size ≡ a.patterns automaton.now + 1 }
-    requires ends { ends.now.size ≡ a.states automaton.now }
-    requires size { states.now.size ≡ a.states automaton.now }
-    requires next { next.old.size ≡ a.states automaton.now }
+    requires sets { AreForElement automaton.now numbers.now ends.now states.now next.old }
     requires none { HasNone next.old }
     ensures size { next.new.size ≡ next.old.size }
     ensures numbers { (x : g.Grammar) → a.Stands s.input x automaton.now → (j : ℕ) → Has next.new j
@@ -73,10 +70,7 @@ pub(crate) fn pass_element(
     states: &mut Set,
     next: &mut Set,
 )
-    requires numbers { numbers.now.size ≡ a.patterns automaton.now + 1 }
-    requires ends { ends.now.size ≡ a.states automaton.now }
-    requires size { states.old.size ≡ a.states automaton.now }
-    requires next { next.old.size ≡ a.states automaton.now }
+    requires { AreForElement automaton.now numbers.now ends.now states.old next.old }
     ensures size { states.new.size ≡ states.old.size }
     ensures next { next.new.size ≡ next.old.size }
     ensures led { (x : g.Grammar) (n m : ExpandedName) (kids inside : t.Trees)

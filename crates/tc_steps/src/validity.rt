@@ -99,8 +99,7 @@ impl<'h> Validity<'h> {
 
     /// Goes over the text that was taken.
     fn pass_text(&mut self)
-        requires inside { 0 < self.old.depth }
-        requires text { self.old.has_text ≡ true }
+        requires { (0 < self.old.depth) × (self.old.has_text ≡ true) }
         ensures depth { self.new.depth ≡ self.old.depth }
         ensures room { length self.new.levels.items ≡ length self.old.levels.items }
         ensures within { (x : g.Grammar) (path : List Open) (run : List ℕ)

@@ -98,60 +98,39 @@ print_within-loop-node-preserved g t c =
     let whole : so_far.0 ++ one ++ rest ≡ printed_in d (trees c.args.nodes.now) =
     append_assoc so_far.0 one rest ∙ (ap (λ x. so_far.0 ++ x) (sym (printed_left d c.args.nodes.now c.loop-node.node-index c.node-item.result c.loop-node-test.true c.node-item.is)) ∙ so_far.1) in
     record {
-      count = omega (arith, c.loop-node.invariant.count, c.in_ok-print_one.ensures.count);
+      count = omega (arith, c.loop-node.invariant.count, c.in_ok-print_one.ensures.faults.count);
       so_far = (so_far.0 ++ one, whole, appended_twice _ _ _ so_far.0 one so_far.2 c.in_ok-print_one.ensures.ok);
     }
 
-pub print_one-returns-in_err-within-in-Elem-clause-count : goal.print_one-returns-in_err-within-in-Elem-clause-count
-print_one-returns-in_err-within-in-Elem-clause-count g t c = c.in_err-within-in-Elem.ensures.count
+pub print_one-returns-in_err-within-in-Elem-clause-faults : goal.print_one-returns-in_err-within-in-Elem-clause-faults
+print_one-returns-in_err-within-in-Elem-clause-faults g t c = record { count = c.in_err-within-in-Elem.ensures.faults.count; rose = on_err c.from_residual.result c.in_err-within-in-Elem.ensures.faults.rose }
 
 pub print_one-returns-in_err-within-in-Elem-clause-ok : goal.print_one-returns-in_err-within-in-Elem-clause-ok
 print_one-returns-in_err-within-in-Elem-clause-ok g t c = no_ok c.from_residual.result _ _ c.from_residual.ensures.1
 
-pub print_one-returns-in_err-within-in-Elem-clause-rose : goal.print_one-returns-in_err-within-in-Elem-clause-rose
-print_one-returns-in_err-within-in-Elem-clause-rose g t c = on_err c.from_residual.result c.in_err-within-in-Elem.ensures.rose
+pub print_one-returns-then-is_empty-clause-faults : goal.print_one-returns-then-is_empty-clause-faults
+print_one-returns-then-is_empty-clause-faults g t c = record { count = omega (arith, c.in_ok-within-in-Elem.ensures.faults.count, c.write.ensures.count); rose = on_err_map c.write.result (λ h. then_rose _ _ _ c.in_ok-within-in-Elem.ensures.faults.count h) c.write.ensures.rose }
 
-pub print_one-returns-then-is_empty-clause-count : goal.print_one-returns-then-is_empty-clause-count
-print_one-returns-then-is_empty-clause-count g t c = omega (arith, c.in_ok-within-in-Elem.ensures.count, c.write.ensures.count)
-
-pub print_one-returns-then-is_empty-clause-rose : goal.print_one-returns-then-is_empty-clause-rose
-print_one-returns-then-is_empty-clause-rose g t c = on_err_map c.write.result (λ h. then_rose _ _ _ c.in_ok-within-in-Elem.ensures.count h) c.write.ensures.rose
-
-pub print_one-returns-in_err-write-in-Elem-clause-count : goal.print_one-returns-in_err-write-in-Elem-clause-count
-print_one-returns-in_err-write-in-Elem-clause-count g t c = omega (arith, c.in_ok-within-in-Elem.ensures.count, c.in_err-write-in-Elem.ensures.count)
+pub print_one-returns-in_err-write-in-Elem-clause-faults : goal.print_one-returns-in_err-write-in-Elem-clause-faults
+print_one-returns-in_err-write-in-Elem-clause-faults g t c = record { count = omega (arith, c.in_ok-within-in-Elem.ensures.faults.count, c.in_err-write-in-Elem.ensures.count); rose = on_err c.from_residual-in_err-write-in-Elem.result (then_rose _ _ _ c.in_ok-within-in-Elem.ensures.faults.count c.in_err-write-in-Elem.ensures.rose) }
 
 pub print_one-returns-in_err-write-in-Elem-clause-ok : goal.print_one-returns-in_err-write-in-Elem-clause-ok
 print_one-returns-in_err-write-in-Elem-clause-ok g t c = no_ok c.from_residual-in_err-write-in-Elem.result _ _ c.from_residual-in_err-write-in-Elem.ensures.1
 
-pub print_one-returns-in_err-write-in-Elem-clause-rose : goal.print_one-returns-in_err-write-in-Elem-clause-rose
-print_one-returns-in_err-write-in-Elem-clause-rose g t c = on_err c.from_residual-in_err-write-in-Elem.result (then_rose _ _ _ c.in_ok-within-in-Elem.ensures.count c.in_err-write-in-Elem.ensures.rose)
-
-pub print_one-returns-in_err-print_within-in-Elem-clause-count : goal.print_one-returns-in_err-print_within-in-Elem-clause-count
-print_one-returns-in_err-print_within-in-Elem-clause-count g t c = omega (arith, c.in_ok-within-in-Elem.ensures.count, c.in_ok-write-in-Elem.ensures.count, c.in_err-print_within-in-Elem.ensures.count)
+pub print_one-returns-in_err-print_within-in-Elem-clause-faults : goal.print_one-returns-in_err-print_within-in-Elem-clause-faults
+print_one-returns-in_err-print_within-in-Elem-clause-faults g t c = record { count = omega (arith, c.in_ok-within-in-Elem.ensures.faults.count, c.in_ok-write-in-Elem.ensures.count, c.in_err-print_within-in-Elem.ensures.faults.count); rose = on_err c.from_residual-in_err-print_within-in-Elem.result (then_rose _ _ _ c.in_ok-within-in-Elem.ensures.faults.count (then_rose _ _ _ c.in_ok-write-in-Elem.ensures.count c.in_err-print_within-in-Elem.ensures.faults.rose)) }
 
 pub print_one-returns-in_err-print_within-in-Elem-clause-ok : goal.print_one-returns-in_err-print_within-in-Elem-clause-ok
 print_one-returns-in_err-print_within-in-Elem-clause-ok g t c = no_ok c.from_residual-in_err-print_within-in-Elem.result _ _ c.from_residual-in_err-print_within-in-Elem.ensures.1
 
-pub print_one-returns-in_err-print_within-in-Elem-clause-rose : goal.print_one-returns-in_err-print_within-in-Elem-clause-rose
-print_one-returns-in_err-print_within-in-Elem-clause-rose g t c = on_err c.from_residual-in_err-print_within-in-Elem.result (then_rose _ _ _ c.in_ok-within-in-Elem.ensures.count (then_rose _ _ _ c.in_ok-write-in-Elem.ensures.count c.in_err-print_within-in-Elem.ensures.rose))
+pub print_one-returns-in-Text-clause-faults : goal.print_one-returns-in-Text-clause-faults
+print_one-returns-in-Text-clause-faults g t c = c.write_escaped.ensures.faults
 
-pub print_one-returns-in-Text-clause-count : goal.print_one-returns-in-Text-clause-count
-print_one-returns-in-Text-clause-count g t c = c.write_escaped.ensures.count
+pub print_one-returns-in_ok-print_within-in-Elem-clause-faults : goal.print_one-returns-in_ok-print_within-in-Elem-clause-faults
+print_one-returns-in_ok-print_within-in-Elem-clause-faults g t c = record { count = omega (arith, c.in_ok-within-in-Elem.ensures.faults.count, c.in_ok-write-in-Elem.ensures.count, c.in_ok-print_within-in-Elem.ensures.faults.count, c.write_end_tag.ensures.faults.count); rose = on_err_map c.write_end_tag.result (λ h. then_rose _ _ _ c.in_ok-within-in-Elem.ensures.faults.count (then_rose _ _ _ c.in_ok-write-in-Elem.ensures.count (then_rose _ _ _ c.in_ok-print_within-in-Elem.ensures.faults.count h))) c.write_end_tag.ensures.faults.rose }
 
-pub print_one-returns-in-Text-clause-rose : goal.print_one-returns-in-Text-clause-rose
-print_one-returns-in-Text-clause-rose g t c = c.write_escaped.ensures.rose
-
-pub print_one-returns-in_ok-print_within-in-Elem-clause-count : goal.print_one-returns-in_ok-print_within-in-Elem-clause-count
-print_one-returns-in_ok-print_within-in-Elem-clause-count g t c = omega (arith, c.in_ok-within-in-Elem.ensures.count, c.in_ok-write-in-Elem.ensures.count, c.in_ok-print_within-in-Elem.ensures.count, c.write_end_tag.ensures.count)
-
-pub print_one-returns-in_ok-print_within-in-Elem-clause-rose : goal.print_one-returns-in_ok-print_within-in-Elem-clause-rose
-print_one-returns-in_ok-print_within-in-Elem-clause-rose g t c = on_err_map c.write_end_tag.result (λ h. then_rose _ _ _ c.in_ok-within-in-Elem.ensures.count (then_rose _ _ _ c.in_ok-write-in-Elem.ensures.count (then_rose _ _ _ c.in_ok-print_within-in-Elem.ensures.count h))) c.write_end_tag.ensures.rose
-
-pub print_within-returns-in_err-print_one-clause-count : goal.print_within-returns-in_err-print_one-clause-count
-print_within-returns-in_err-print_one-clause-count g t c = omega (arith, c.loop-node.invariant.count, c.in_err-print_one.ensures.count)
+pub print_within-returns-in_err-print_one-clause-faults : goal.print_within-returns-in_err-print_one-clause-faults
+print_within-returns-in_err-print_one-clause-faults g t c = record { count = omega (arith, c.loop-node.invariant.count, c.in_err-print_one.ensures.faults.count); rose = on_err c.from_residual.result (then_rose _ _ _ c.loop-node.invariant.count c.in_err-print_one.ensures.faults.rose) }
 
 pub print_within-returns-in_err-print_one-clause-ok : goal.print_within-returns-in_err-print_one-clause-ok
 print_within-returns-in_err-print_one-clause-ok g t c = no_ok c.from_residual.result _ _ c.from_residual.ensures.1
-
-pub print_within-returns-in_err-print_one-clause-rose : goal.print_within-returns-in_err-print_one-clause-rose
-print_within-returns-in_err-print_one-clause-rose g t c = on_err c.from_residual.result (then_rose _ _ _ c.loop-node.invariant.count c.in_err-print_one.ensures.rose)

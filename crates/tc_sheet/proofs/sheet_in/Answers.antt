@@ -35,9 +35,6 @@ pub returns-in_err-modes-clause-no : goal.returns-in_err-modes-clause-no
 returns-in_err-modes-clause-no c =
     handed_on _ c.from_residual-in_err-modes.result c.in_err-modes.field-0.0 c.from_residual-in_err-modes.ensures.1 (told_memory (raw_element c.args.element.now none) c.in_err-modes.field-0.0 c.in_err-modes.ensures.no)
 
-pub check_calls-requires-clause-names : goal.check_calls-requires-clause-names
-check_calls-requires-clause-names c = names_used (map template c.in_ok-written.written.now) (map template c.in_ok-templates.templates.now) (names_seen c.in_ok-names.names.now) c.in_ok-templates.ensures.ok c.in_ok-names.ensures.ok
-
 pub sheet_of-requires-clause-names : goal.sheet_of-requires-clause-names
 sheet_of-requires-clause-names c = names_used (map template c.in_ok-written.written.now) (map template c.in_ok-templates.templates.now) (names_seen c.in_ok-names.names.now) c.in_ok-templates.ensures.ok c.in_ok-names.ensures.ok
 
@@ -61,11 +58,14 @@ returns-in_err-check_calls-clause-ok c = no_value c.from_residual-in_err-check_c
 pub returns-in_err-modes-clause-ok : goal.returns-in_err-modes-clause-ok
 returns-in_err-modes-clause-ok c = no_value c.from_residual-in_err-modes.result _ _ c.from_residual-in_err-modes.ensures.1
 
-pub check_calls-requires-clause-once : goal.check_calls-requires-clause-once
-check_calls-requires-clause-once c = subst (IsDistinct same_name) (sym c.in_ok-names.ensures.ok) c.in_ok-names.ensures.once
-
 pub sheet_of-requires-clause-modes : goal.sheet_of-requires-clause-modes
 sheet_of-requires-clause-modes c = c.in_ok-modes.ensures.ok
 
 pub returns-clause-no : goal.returns-clause-no
 returns-clause-no c = IfErr-weaker c.sheet_of.result _ _ (λ x e. told_memory (raw_element c.args.element.now none) x e) c.sheet_of.ensures.no
+
+pub check_calls-requires : goal.check_calls-requires
+check_calls-requires c = record {
+  names = names_used (map template c.in_ok-written.written.now) (map template c.in_ok-templates.templates.now) (names_seen c.in_ok-names.names.now) c.in_ok-templates.ensures.ok c.in_ok-names.ensures.ok;
+  once = subst (IsDistinct same_name) (sym c.in_ok-names.ensures.ok) c.in_ok-names.ensures.once;
+}

@@ -14,47 +14,30 @@ mark-requires-clause-table c = (syntax c.args.syntax.now, c.requires.table)
 pub walk-requires : goal.walk-requires
 walk-requires c = (syntax c.args.syntax.now, c.requires.table)
 
-pub resolved-requires-clause-resolves : goal.resolved-requires-clause-resolves
-resolved-requires-clause-resolves c =
-    let w = c.in_ok-walked.walked in
-    subst (λ (m : List Bool). Resolves (syntax c.args.syntax.now) c.args.table.now c.in_ok-start.start m w.states.items w.order.items) (sym c.deref.ensures.value)
-    (record { table = c.requires.table; begins = c.in_ok-start.ensures.start; reach = c.in_ok-marks.ensures; components = c.in_ok-walked.ensures })
-
 pub defined_start-requires : goal.defined_start-requires
 defined_start-requires c = c.requires.table
 
 pub returns-in_err-start-clause-grammar : goal.returns-in_err-start-clause-grammar
 returns-in_err-start-clause-grammar c = failed_ok c.from_residual.result _ _ c.from_residual.ensures.1
 
-pub returns-in_err-start-clause-within : goal.returns-in_err-start-clause-within
-returns-in_err-start-clause-within c = failed_ok c.from_residual.result _ _ c.from_residual.ensures.1
-
 pub returns-in_err-marks-clause-grammar : goal.returns-in_err-marks-clause-grammar
 returns-in_err-marks-clause-grammar c = failed_ok c.from_residual-in_err-marks.result _ _ c.from_residual-in_err-marks.ensures.1
-
-pub returns-in_err-marks-clause-within : goal.returns-in_err-marks-clause-within
-returns-in_err-marks-clause-within c = failed_ok c.from_residual-in_err-marks.result _ _ c.from_residual-in_err-marks.ensures.1
 
 pub returns-in_err-walked-clause-grammar : goal.returns-in_err-walked-clause-grammar
 returns-in_err-walked-clause-grammar c = failed_ok c.from_residual-in_err-walked.result _ _ c.from_residual-in_err-walked.ensures.1
 
-pub returns-in_err-walked-clause-within : goal.returns-in_err-walked-clause-within
-returns-in_err-walked-clause-within c = failed_ok c.from_residual-in_err-walked.result _ _ c.from_residual-in_err-walked.ensures.1
-
-pub resolved-requires-clause-lawful : goal.resolved-requires-clause-lawful
-resolved-requires-clause-lawful c = c.requires.lawful
-
-pub resolved-requires-clause-once : goal.resolved-requires-clause-once
-resolved-requires-clause-once c = c.in_ok-start.ensures.once
-
-pub resolved-requires-clause-defined : goal.resolved-requires-clause-defined
-resolved-requires-clause-defined c = c.in_ok-start.ensures.defined
-
 pub returns-clause-grammar : goal.returns-clause-grammar
 returns-clause-grammar c = c.resolved.ensures.grammar
 
-pub returns-clause-within : goal.returns-clause-within
-returns-clause-within c = c.resolved.ensures.within
-
 pub returns-clause-err : goal.returns-clause-err
 returns-clause-err c = c.resolved.ensures.err
+
+pub resolved-requires : goal.resolved-requires
+resolved-requires c =
+    let w = c.in_ok-walked.walked in
+    record {
+      lawful = c.requires.lawful;
+      names = c.in_ok-start.ensures.names;
+      resolves = subst (λ (m : List Bool). Resolves (syntax c.args.syntax.now) c.args.table.now c.in_ok-start.start m w.states.items w.order.items) (sym c.deref.ensures.value)
+          (record { table = c.requires.table; begins = c.in_ok-start.ensures.start; reach = c.in_ok-marks.ensures; components = c.in_ok-walked.ensures });
+    }

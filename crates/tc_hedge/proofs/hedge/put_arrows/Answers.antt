@@ -14,3 +14,6 @@ loop-arrow-preserved c = (
 
 pub returns-clause-pairs : goal.returns-clause-pairs
 returns-clause-pairs c = put_all_arrows c.args.arrows.now c.loop-arrow.arrow-index c.loop-arrow-test.false c.args.out.now c.loop-arrow.out c.loop-arrow.invariant.2
+
+pub returns-clause-kept : goal.returns-clause-kept
+returns-clause-kept c = record { size = c.loop-arrow.invariant.0; matrix = c.loop-arrow.invariant.1 }

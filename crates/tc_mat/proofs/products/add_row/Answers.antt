@@ -12,11 +12,11 @@ loop-word-preserved c =
     (set out (c.args.row * w + k) (bit_or (get_or out (c.args.row * w + k) 0) (get_or c.args.b.now (c.args.from * w + k) 0))) in (
       width,
       subst P (sym width)
-          (added_more c.args.n c.args.b.now c.args.from c.args.row c.args.out.now out c.requires.row k c.loop-word.invariant.1 (omega (arith, c.requires.room)) (omega arith)),
+          (added_more c.args.n c.args.b.now c.args.from c.args.row c.args.out.now out c.requires.target.row k c.loop-word.invariant.1 (omega (arith, c.requires.target.room)) (omega arith)),
     )
 
 pub returns : goal.returns
 returns c =
     let P : ℕ → Type 0 = λ k. IsAddedUpTo c.args.n c.args.b.now c.args.from c.args.row k c.args.out.now c.loop-word.out in
     let end : c.loop-word.word ≡ words_a_row c.args.n = omega (arith, c.words_in_row-width.ensures) in
-    added_whole c.args.n c.args.b.now c.args.from c.args.row c.args.out.now c.loop-word.out c.requires.row (subst P end c.loop-word.invariant.1)
+    added_whole c.args.n c.args.b.now c.args.from c.args.row c.args.out.now c.loop-word.out c.requires.target.row (subst P end c.loop-word.invariant.1)

@@ -20,11 +20,6 @@ add_rows-requires-clause-told c = λ t bit.
     let (below, low) = told_low c.args.n c.args.a.now at c.requires.padded c.loop-at-test.true c.requires.left t bit in
     (below, subst (λ v. 64 * (at % v) + t < c.args.n) (sym c.words_in_row-width.ensures) low)
 
-pub add_rows-requires-clause-row : goal.add_rows-requires-clause-row
-add_rows-requires-clause-row c =
-    let at = c.loop-at.at in
-    omega (arith, row_low c.args.n at (length c.args.a.now) c.loop-at-test.true c.requires.left, ap (λ v. at / v) c.words_in_row-width.ensures)
-
 pub add_rows-requires-clause-by : goal.add_rows-requires-clause-by
 add_rows-requires-clause-by c =
     let at = c.loop-at.at in
@@ -56,20 +51,23 @@ copy_from_slice-requires c = c.requires.room ∙ sym c.requires.right
 pub bounds-a-at : goal.bounds-a-at
 bounds-a-at c = c.loop-at-test.true
 
-pub add_rows-requires-clause-right : goal.add_rows-requires-clause-right
-add_rows-requires-clause-right c = c.requires.right
-
 pub nonzero_rem-at : goal.nonzero_rem-at
 nonzero_rem-at c = subst (λ v. 0 < v) (sym c.words_in_row-width.ensures) (some_width c.args.n c.loop-at.at (length c.args.a.now) c.loop-at-test.true c.requires.left)
 
 pub nonzero_div-at : goal.nonzero_div-at
 nonzero_div-at c = subst (λ v. 0 < v) (sym c.words_in_row-width.ensures) (some_width c.args.n c.loop-at.at (length c.args.a.now) c.loop-at-test.true c.requires.left)
 
-pub add_rows-requires-clause-room : goal.add_rows-requires-clause-room
-add_rows-requires-clause-room c = c.loop-at.auto.out ∙ (c.fill.auto.self ∙ c.requires.room)
-
 pub loop-at-smaller : goal.loop-at-smaller
 loop-at-smaller c = falls _ c.loop-at.at c.loop-at-test.true
 
 pub loop-at-init : goal.loop-at-init
 loop-at-init c = led_zeros c.args.n c.args.a.now c.args.b.now _ c.fill.new.self (c.fill.ensures.after (λ y e. e))
+
+pub add_rows-requires-clause-target : goal.add_rows-requires-clause-target
+add_rows-requires-clause-target c =
+    let at = c.loop-at.at in
+    record {
+      right = c.requires.right;
+      room = c.loop-at.auto.out ∙ (c.fill.auto.self ∙ c.requires.room);
+      row = omega (arith, row_low c.args.n at (length c.args.a.now) c.loop-at-test.true c.requires.left, ap (λ v. at / v) c.words_in_row-width.ensures);
+    }

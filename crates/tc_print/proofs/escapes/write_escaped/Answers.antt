@@ -43,7 +43,7 @@ loop-place-preserved g c =
           (appended_twice _ _ _ (flat_map f (take w xs)) (between xs w p) kept.so_far b.in_ok-write_run.ensures.ok) in
           rw (b.sink-is, b.written-is) (record {
             in_order = omega arith;
-            count = omega (arith, kept.count, b.in_ok-write_run.ensures.count, b.in_ok-write.ensures.count);
+            count = omega (arith, kept.count, b.in_ok-write_run.ensures.faults.count, b.in_ok-write.ensures.count);
             plain = ap (flat_map f) (none_between xs (p + 1)) ∙ sym (none_between xs (p + 1));
             so_far = subst (Appended _ _) (sym (flat_next f xs p c.loop-place-test.true))
                 (appended_twice _ _ _ (flat_map f (take p xs)) (f (get_or xs p 0)) so_far (subst (Appended _ _) (sym b.in-Some.ensures.some) b.in_ok-write.ensures.ok));
@@ -75,26 +75,17 @@ returns-clause-fault g c =
     on_err_map c.write_run-2.result (λ h. subst (WroteFront _ _) (all_written f xs w c.loop-place.place kept.in_order (omega arith) kept.plain)
     (next_front _ _ _ (flat_map f (take w xs)) (between xs w (length xs)) kept.so_far h)) c.write_run-2.ensures.fault
 
-pub returns-then-is_plain-clause-count : goal.returns-then-is_plain-clause-count
-returns-then-is_plain-clause-count g c = c.write.ensures.count
+pub returns-then-is_plain-clause-faults : goal.returns-then-is_plain-clause-faults
+returns-then-is_plain-clause-faults g c = record { count = c.write.ensures.count; rose = c.write.ensures.rose }
 
-pub returns-then-is_plain-clause-rose : goal.returns-then-is_plain-clause-rose
-returns-then-is_plain-clause-rose g c = c.write.ensures.rose
-
-pub returns-in_err-write_run-clause-count : goal.returns-in_err-write_run-clause-count
-returns-in_err-write_run-clause-count g c = omega (arith, c.loop-place.invariant.count, c.in_err-write_run.ensures.count)
+pub returns-in_err-write_run-clause-faults : goal.returns-in_err-write_run-clause-faults
+returns-in_err-write_run-clause-faults g c = record { count = omega (arith, c.loop-place.invariant.count, c.in_err-write_run.ensures.faults.count); rose = on_err c.from_residual.result (then_rose _ _ _ c.loop-place.invariant.count c.in_err-write_run.ensures.faults.rose) }
 
 pub returns-in_err-write_run-clause-ok : goal.returns-in_err-write_run-clause-ok
 returns-in_err-write_run-clause-ok g c = no_ok c.from_residual.result _ _ c.from_residual.ensures.1
 
-pub returns-in_err-write_run-clause-rose : goal.returns-in_err-write_run-clause-rose
-returns-in_err-write_run-clause-rose g c = on_err c.from_residual.result (then_rose _ _ _ c.loop-place.invariant.count c.in_err-write_run.ensures.rose)
-
-pub returns-in_err-write-clause-count : goal.returns-in_err-write-clause-count
-returns-in_err-write-clause-count g c = omega (arith, c.loop-place.invariant.count, c.in_ok-write_run.ensures.count, c.in_err-write.ensures.count)
+pub returns-in_err-write-clause-faults : goal.returns-in_err-write-clause-faults
+returns-in_err-write-clause-faults g c = record { count = omega (arith, c.loop-place.invariant.count, c.in_ok-write_run.ensures.faults.count, c.in_err-write.ensures.count); rose = on_err c.from_residual-in_err-write.result (then_rose _ _ _ c.loop-place.invariant.count (then_rose _ _ _ c.in_ok-write_run.ensures.faults.count c.in_err-write.ensures.rose)) }
 
 pub returns-in_err-write-clause-ok : goal.returns-in_err-write-clause-ok
 returns-in_err-write-clause-ok g c = no_ok c.from_residual-in_err-write.result _ _ c.from_residual-in_err-write.ensures.1
-
-pub returns-in_err-write-clause-rose : goal.returns-in_err-write-clause-rose
-returns-in_err-write-clause-rose g c = on_err c.from_residual-in_err-write.result (then_rose _ _ _ c.loop-place.invariant.count (then_rose _ _ _ c.in_ok-write_run.ensures.count c.in_err-write.ensures.rose))

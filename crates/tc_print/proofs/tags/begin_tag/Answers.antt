@@ -24,29 +24,20 @@ returns-clause-fault g c =
     on_err_map c.write_declaration.result (λ h. next_front _ _ _ (codes "<") (tag_name n ++ declares) c.in_ok-write.ensures.ok
     (next_front _ _ _ (tag_name n) declares c.in_ok-write_tag_name.ensures.ok h)) c.write_declaration.ensures.fault
 
-pub returns-in_err-write-clause-count : goal.returns-in_err-write-clause-count
-returns-in_err-write-clause-count g c = c.in_err-write.ensures.count
+pub returns-in_err-write-clause-faults : goal.returns-in_err-write-clause-faults
+returns-in_err-write-clause-faults g c = record { count = c.in_err-write.ensures.count; rose = on_err c.from_residual.result c.in_err-write.ensures.rose }
 
 pub returns-in_err-write-clause-ok : goal.returns-in_err-write-clause-ok
 returns-in_err-write-clause-ok g c = no_ok c.from_residual.result _ _ c.from_residual.ensures.1
 
-pub returns-in_err-write-clause-rose : goal.returns-in_err-write-clause-rose
-returns-in_err-write-clause-rose g c = on_err c.from_residual.result c.in_err-write.ensures.rose
-
-pub returns-in_err-write_tag_name-clause-count : goal.returns-in_err-write_tag_name-clause-count
-returns-in_err-write_tag_name-clause-count g c = omega (arith, c.in_ok-write.ensures.count, c.in_err-write_tag_name.ensures.count)
+pub returns-in_err-write_tag_name-clause-faults : goal.returns-in_err-write_tag_name-clause-faults
+returns-in_err-write_tag_name-clause-faults g c = record { count = omega (arith, c.in_ok-write.ensures.count, c.in_err-write_tag_name.ensures.faults.count); rose = on_err c.from_residual-in_err-write_tag_name.result (then_rose _ _ _ c.in_ok-write.ensures.count c.in_err-write_tag_name.ensures.faults.rose) }
 
 pub returns-in_err-write_tag_name-clause-ok : goal.returns-in_err-write_tag_name-clause-ok
 returns-in_err-write_tag_name-clause-ok g c = no_ok c.from_residual-in_err-write_tag_name.result _ _ c.from_residual-in_err-write_tag_name.ensures.1
 
-pub returns-in_err-write_tag_name-clause-rose : goal.returns-in_err-write_tag_name-clause-rose
-returns-in_err-write_tag_name-clause-rose g c = on_err c.from_residual-in_err-write_tag_name.result (then_rose _ _ _ c.in_ok-write.ensures.count c.in_err-write_tag_name.ensures.rose)
-
-pub returns-clause-count : goal.returns-clause-count
-returns-clause-count g c = omega (arith, c.in_ok-write.ensures.count, c.in_ok-write_tag_name.ensures.count, c.write_declaration.ensures.count)
-
-pub returns-clause-rose : goal.returns-clause-rose
-returns-clause-rose g c = on_err_map c.write_declaration.result (λ h. then_rose _ _ _ c.in_ok-write.ensures.count (then_rose _ _ _ c.in_ok-write_tag_name.ensures.count h)) c.write_declaration.ensures.rose
+pub returns-clause-faults : goal.returns-clause-faults
+returns-clause-faults g c = record { count = omega (arith, c.in_ok-write.ensures.count, c.in_ok-write_tag_name.ensures.faults.count, c.write_declaration.ensures.faults.count); rose = on_err_map c.write_declaration.result (λ h. then_rose _ _ _ c.in_ok-write.ensures.count (then_rose _ _ _ c.in_ok-write_tag_name.ensures.faults.count h)) c.write_declaration.ensures.faults.rose }
 
 pub returns-in_err-write-clause-within : goal.returns-in_err-write-clause-within
 returns-in_err-write-clause-within g c = no_value c.from_residual.result _ _ c.from_residual.ensures.1

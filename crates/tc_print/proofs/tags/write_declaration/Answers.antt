@@ -36,8 +36,8 @@ returns-in_err-write-2-clause-fault g c =
 pub returns-clause-within : goal.returns-clause-within
 returns-clause-within g c = search rules
 
-pub returns-in_err-write-clause-count : goal.returns-in_err-write-clause-count
-returns-in_err-write-clause-count g c = c.in_err-write.ensures.count
+pub returns-in_err-write-clause-faults : goal.returns-in_err-write-clause-faults
+returns-in_err-write-clause-faults g c = record { count = c.in_err-write.ensures.count; rose = on_err c.from_residual.result c.in_err-write.ensures.rose }
 
 pub returns-in_err-write-clause-ok : goal.returns-in_err-write-clause-ok
 returns-in_err-write-clause-ok g c = no_ok c.from_residual.result _ _ c.from_residual.ensures.1
@@ -45,11 +45,8 @@ returns-in_err-write-clause-ok g c = no_ok c.from_residual.result _ _ c.from_res
 pub returns-in_err-write-clause-within : goal.returns-in_err-write-clause-within
 returns-in_err-write-clause-within g c = no_value c.from_residual.result _ _ c.from_residual.ensures.1
 
-pub returns-in_err-write-clause-rose : goal.returns-in_err-write-clause-rose
-returns-in_err-write-clause-rose g c = on_err c.from_residual.result c.in_err-write.ensures.rose
-
-pub returns-in_err-write_escaped-clause-count : goal.returns-in_err-write_escaped-clause-count
-returns-in_err-write_escaped-clause-count g c = omega (arith, c.in_ok-write.ensures.count, c.in_err-write_escaped.ensures.count)
+pub returns-in_err-write_escaped-clause-faults : goal.returns-in_err-write_escaped-clause-faults
+returns-in_err-write_escaped-clause-faults g c = record { count = omega (arith, c.in_ok-write.ensures.count, c.in_err-write_escaped.ensures.faults.count); rose = on_err c.from_residual-in_err-write_escaped.result (then_rose _ _ _ c.in_ok-write.ensures.count c.in_err-write_escaped.ensures.faults.rose) }
 
 pub returns-in_err-write_escaped-clause-ok : goal.returns-in_err-write_escaped-clause-ok
 returns-in_err-write_escaped-clause-ok g c = no_ok c.from_residual-in_err-write_escaped.result _ _ c.from_residual-in_err-write_escaped.ensures.1
@@ -57,11 +54,8 @@ returns-in_err-write_escaped-clause-ok g c = no_ok c.from_residual-in_err-write_
 pub returns-in_err-write_escaped-clause-within : goal.returns-in_err-write_escaped-clause-within
 returns-in_err-write_escaped-clause-within g c = no_value c.from_residual-in_err-write_escaped.result _ _ c.from_residual-in_err-write_escaped.ensures.1
 
-pub returns-in_err-write_escaped-clause-rose : goal.returns-in_err-write_escaped-clause-rose
-returns-in_err-write_escaped-clause-rose g c = on_err c.from_residual-in_err-write_escaped.result (then_rose _ _ _ c.in_ok-write.ensures.count c.in_err-write_escaped.ensures.rose)
-
-pub returns-in_err-write-2-clause-count : goal.returns-in_err-write-2-clause-count
-returns-in_err-write-2-clause-count g c = omega (arith, c.in_ok-write.ensures.count, c.in_ok-write_escaped.ensures.count, c.in_err-write-2.ensures.count)
+pub returns-in_err-write-2-clause-faults : goal.returns-in_err-write-2-clause-faults
+returns-in_err-write-2-clause-faults g c = record { count = omega (arith, c.in_ok-write.ensures.count, c.in_ok-write_escaped.ensures.faults.count, c.in_err-write-2.ensures.count); rose = on_err c.from_residual-in_err-write-2.result (then_rose _ _ _ c.in_ok-write.ensures.count (then_rose _ _ _ c.in_ok-write_escaped.ensures.faults.count c.in_err-write-2.ensures.rose)) }
 
 pub returns-in_err-write-2-clause-ok : goal.returns-in_err-write-2-clause-ok
 returns-in_err-write-2-clause-ok g c = no_ok c.from_residual-in_err-write-2.result _ _ c.from_residual-in_err-write-2.ensures.1
@@ -69,11 +63,8 @@ returns-in_err-write-2-clause-ok g c = no_ok c.from_residual-in_err-write-2.resu
 pub returns-in_err-write-2-clause-within : goal.returns-in_err-write-2-clause-within
 returns-in_err-write-2-clause-within g c = no_value c.from_residual-in_err-write-2.result _ _ c.from_residual-in_err-write-2.ensures.1
 
-pub returns-in_err-write-2-clause-rose : goal.returns-in_err-write-2-clause-rose
-returns-in_err-write-2-clause-rose g c = on_err c.from_residual-in_err-write-2.result (then_rose _ _ _ c.in_ok-write.ensures.count (then_rose _ _ _ c.in_ok-write_escaped.ensures.count c.in_err-write-2.ensures.rose))
-
-pub returns-clause-count : goal.returns-clause-count
-returns-clause-count g c = omega (arith, c.in_ok-write.ensures.count, c.in_ok-write_escaped.ensures.count, c.in_ok-write-2.ensures.count)
+pub returns-clause-faults : goal.returns-clause-faults
+returns-clause-faults g c = record { count = omega (arith, c.in_ok-write.ensures.count, c.in_ok-write_escaped.ensures.faults.count, c.in_ok-write-2.ensures.count); rose = tt }
 
 pub returns-clause-ok : goal.returns-clause-ok
 returns-clause-ok g c =

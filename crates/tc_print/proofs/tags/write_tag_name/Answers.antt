@@ -44,11 +44,8 @@ returns-clause-fault g c =
           on_err_map c.write-2.result (λ h. subst (WroteFront _ _) (without_prefix n xml) (rw (← w.sink-is) (last h))) c.write-2.ensures.fault
     ]
 
-pub returns-in_err-write-clause-count : goal.returns-in_err-write-clause-count
-returns-in_err-write-clause-count g c = c.in_err-write.ensures.count
+pub returns-in_err-write-clause-faults : goal.returns-in_err-write-clause-faults
+returns-in_err-write-clause-faults g c = record { count = c.in_err-write.ensures.count; rose = on_err c.from_residual.result c.in_err-write.ensures.rose }
 
 pub returns-in_err-write-clause-ok : goal.returns-in_err-write-clause-ok
 returns-in_err-write-clause-ok g c = no_ok c.from_residual.result _ _ c.from_residual.ensures.1
-
-pub returns-in_err-write-clause-rose : goal.returns-in_err-write-clause-rose
-returns-in_err-write-clause-rose g c = on_err c.from_residual.result c.in_err-write.ensures.rose

@@ -7,21 +7,21 @@ use Rattle.tc_sheet.proofs.attributes.unexpected.Goals.{else-eq-3-via-then-eq-3+
 use Rattle.tc_sheet.proofs.attributes.unexpected.Goals as goal
 
 pub returns-then-eq : goal.returns-then-eq
-returns-then-eq c = escaping_at c.args.element.now c.args.attribute.now c.requires.has c.requires.xslt c.requires.plain (sym c.if-eq.ensures)
+returns-then-eq c = escaping_at c.args.element.now c.args.attribute.now c.requires.own.has c.requires.own.xslt c.requires.plain (sym c.if-eq.ensures)
 
 pub returns-then-eq-2 : goal.returns-then-eq-2
-returns-then-eq-2 c = sets_at c.args.element.now c.args.attribute.now c.requires.has c.requires.xslt c.requires.plain (sym c.if-eq-2.ensures)
+returns-then-eq-2 c = sets_at c.args.element.now c.args.attribute.now c.requires.own.has c.requires.own.xslt c.requires.plain (sym c.if-eq-2.ensures)
 
 pub returns-then-is_xsl : goal.returns-then-is_xsl
-returns-then-is_xsl c = namespace_at c.args.element.now c.args.attribute.now c.requires.has c.requires.xslt c.requires.plain (sym c.if-eq-3.ensures) c.if-is_xsl.ensures
+returns-then-is_xsl c = namespace_at c.args.element.now c.args.attribute.now c.requires.own.has c.requires.own.xslt c.requires.plain (sym c.if-eq-3.ensures) c.if-is_xsl.ensures
 
 pub returns-then-is_root : goal.returns-then-is_root
-returns-then-is_root c = extension_at c.args.element.now c.args.attribute.now c.requires.has c.requires.xslt c.requires.plain (sym c.if-eq-4.ensures) c.if-is_root.ensures
+returns-then-is_root c = extension_at c.args.element.now c.args.attribute.now c.requires.own.has c.requires.own.xslt c.requires.plain (sym c.if-eq-4.ensures) c.if-is_root.ensures
 
 pub returns-else-eq-4 : goal.returns-else-eq-4
 returns-else-eq-4 c =
-    place_at c.args.element.now c.args.attribute.now c.requires.has
-    (unexpected_unrefused (name c.args.element.now.name) (scope_of c.args.element.now) (attribute c.args.attribute.now) c.requires.xslt
+    place_at c.args.element.now c.args.attribute.now c.requires.own.has
+    (unexpected_unrefused (name c.args.element.now.name) (scope_of c.args.element.now) (attribute c.args.attribute.now) c.requires.own.xslt
     (not_always (attribute c.args.attribute.now).name (sym c.if-eq.ensures) (sym c.if-eq-2.ensures))
     (elim c.else-eq-3.branch [
       | else-eq-3-via-then-eq-3+else-is_xsl w ↦ λ is e. w.if-is_xsl.ensures is

@@ -139,9 +139,9 @@ element_of_body-returns-in-Choose t c = c.choose.ensures
 pub read_branches-returns-in_err-push-in-Elem : goal.read_branches-returns-in_err-push-in-Elem
 read_branches-returns-in_err-push-in-Elem t c = memory_passed_on _ (IsIn in_choose (raw_trees c.args.kids.now)) (HasNoBranches (raw_trees c.args.kids.now)) c.from_residual-in_err-push-in-Elem.result c.from_residual-in_err-push-in-Elem.ensures.1
 
-pub choose-chosen-requires-clause-held : goal.choose-chosen-requires-clause-held
-choose-chosen-requires-clause-held t c =
-    subst (λ bs. AreBranches (raw_trees c.args.element.now.kids.now) (branches bs (w_otherwise (body c.in_ok-last.last.now)))) (sym c.into_bump_slice.ensures) c.in_ok-last.ensures
+pub choose-chosen-requires : goal.choose-chosen-requires
+choose-chosen-requires t c =
+    record { choose = c.requires.choose; only = c.requires.only; held = subst (λ bs. AreBranches (raw_trees c.args.element.now.kids.now) (branches bs (w_otherwise (body c.in_ok-last.last.now)))) (sym c.into_bump_slice.ensures) c.in_ok-last.ensures }
 
 pub choose-read_branches-requires : goal.choose-read_branches-requires
 choose-read_branches-requires t c = (search (rules, the_lemmas), c.new-found.ensures.items)
@@ -153,9 +153,3 @@ element_of_body-returns-in_ok-inner-in-Around t c =
     (λ w f. around_reads c.args.element.now c.in-Around.head w (body c.in_ok-inner-in-Around.inner.now) (subst (IsBegun c.args.element.now) c.in-Around.is c.in_ok-begun.ensures.ok) c.in_ok-inner-in-Around.ensures f)
     c.instruction_with_body.ensures.ok)
     (no_memory (HasNoElementItem c.args.element.now) (IsIn in_body (raw_element c.args.element.now none)) c.instruction_with_body.result c.instruction_with_body.ensures.no)
-
-pub choose-chosen-requires-clause-choose : goal.choose-chosen-requires-clause-choose
-choose-chosen-requires-clause-choose t c = c.requires.choose
-
-pub choose-chosen-requires-clause-only : goal.choose-chosen-requires-clause-only
-choose-chosen-requires-clause-only t c = c.requires.only

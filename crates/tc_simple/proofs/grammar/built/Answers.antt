@@ -15,21 +15,15 @@ returns c = λ s lawful faultless r elements.
     let w = c.args.walk.now in
     let marks = c.args.marks.now in
     let made = c.in_ok-patterns.patterns.now in
-    let small : c.args.start < length made = omega (arith, c.requires.start, c.in_ok-patterns.ensures.0) in
+    let small : c.args.start < length made = omega (arith, c.requires.order.start, c.in_ok-patterns.ensures.0) in
     let are = c.in_ok-patterns.ensures.1 s (is_orderly s t c.args.start marks w.states.items w.order.items r lawful faultless) in
     is_grammar s t c.args.start marks w.states.items w.order.items r lawful faultless made
     (subst (λ (z : List Element). AreMade s z t marks w.states.items (length w.order.items) made) elements are) _
     (ap seen.pattern (c.index-patterns-start.is ∙ same_item made c.args.start _ NotAllowed small))
     (c.in_ok-elements.ensures ∙ ap (λ (z : List Element). element_patterns_of t made z z) elements)
 
-pub all_patterns-requires-clause-marks : goal.all_patterns-requires-clause-marks
-all_patterns-requires-clause-marks c = c.requires.marks
-
-pub all_patterns-requires-clause-numbers : goal.all_patterns-requires-clause-numbers
-all_patterns-requires-clause-numbers c = c.requires.numbers
-
 pub all_patterns-requires-clause-order : goal.all_patterns-requires-clause-order
-all_patterns-requires-clause-order c = c.requires.order
+all_patterns-requires-clause-order c = c.requires.order.order
 
 pub all_patterns-requires-clause-few : goal.all_patterns-requires-clause-few
 all_patterns-requires-clause-few c = c.requires.few
@@ -38,7 +32,7 @@ pub element_patterns-requires-clause-few : goal.element_patterns-requires-clause
 element_patterns-requires-clause-few c = c.requires.few
 
 pub element_patterns-requires-clause-numbers : goal.element_patterns-requires-clause-numbers
-element_patterns-requires-clause-numbers c = subst (HasNumbersBelow c.args.table.now) (sym c.in_ok-patterns.ensures.0) c.requires.numbers
+element_patterns-requires-clause-numbers c = subst (HasNumbersBelow c.args.table.now) (sym c.in_ok-patterns.ensures.0) c.requires.marks.numbers
 
 pub returns-in_err-patterns : goal.returns-in_err-patterns
 returns-in_err-patterns c = failed_ok c.from_residual.result _ _ c.from_residual.ensures.1
@@ -47,4 +41,7 @@ pub returns-in_err-elements : goal.returns-in_err-elements
 returns-in_err-elements c = failed_ok c.from_residual-in_err-elements.result _ _ c.from_residual-in_err-elements.ensures.1
 
 pub bounds-patterns-start : goal.bounds-patterns-start
-bounds-patterns-start c = omega (arith, c.requires.start, c.in_ok-patterns.ensures.0)
+bounds-patterns-start c = omega (arith, c.requires.order.start, c.in_ok-patterns.ensures.0)
+
+pub all_patterns-requires-clause-marks : goal.all_patterns-requires-clause-marks
+all_patterns-requires-clause-marks c = c.requires.marks

@@ -11,7 +11,7 @@ use Rattle.tc_simple.proofs.Whole.{has_grammar, is_orderly}
 use Rattle.tc_simple.proofs.grammar.whole_size.Goals as goal
 
 pub total-requires : goal.total-requires
-total-requires c = subst (HasNumbersBelow c.args.table.now) (sym c.in_ok-sizes.ensures.0) c.requires.numbers
+total-requires c = subst (HasNumbersBelow c.args.table.now) (sym c.in_ok-sizes.ensures.0) c.requires.marks.numbers
 
 pub returns : goal.returns
 returns c = λ s lawful faultless r elements.
@@ -20,7 +20,7 @@ returns c = λ s lawful faultless r elements.
     let marks = c.args.marks.now in
     let found = map see_element c.args.found.now in
     let sizes = c.in_ok-sizes.sizes.now in
-    let small : c.args.start < length sizes = omega (arith, c.requires.start, c.in_ok-sizes.ensures.0) in
+    let small : c.args.start < length sizes = omega (arith, c.requires.order.start, c.in_ok-sizes.ensures.0) in
     let are = c.in_ok-sizes.ensures.1 s found (is_orderly s t c.args.start marks w.states.items w.order.items r lawful faultless) in
     let is : c.total.result ≡ total_of t sizes (get_or sizes c.args.start leaf) found =
     total_is t sizes sizes _ (get_or sizes c.args.start leaf) found found c.total.result refl (same_item sizes c.args.start _ leaf small) refl c.total.ensures in

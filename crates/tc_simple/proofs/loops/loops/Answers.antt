@@ -14,15 +14,6 @@ loop-number-preserved c =
 pub loop-number-init : goal.loop-number-init
 loop-number-init c = ap (map place) c.new-found.ensures.items
 
-pub add_marked-requires-clause-marks : goal.add_marked-requires-clause-marks
-add_marked-requires-clause-marks c = c.requires.marks
-
-pub add_marked-requires-clause-states : goal.add_marked-requires-clause-states
-add_marked-requires-clause-states c = c.requires.states
-
-pub add_marked-requires-clause-numbers : goal.add_marked-requires-clause-numbers
-add_marked-requires-clause-numbers c = c.requires.numbers
-
 pub returns-in_err-add_marked : goal.returns-in_err-add_marked
 returns-in_err-add_marked c = failed_ok c.from_residual.result _ _ c.from_residual.ensures.1
 
@@ -30,3 +21,6 @@ pub returns : goal.returns
 returns c =
     let all : c.loop-number.number ≡ length c.args.table.now.patterns.items = omega arith in
     ap (map place) c.into_bump_slice.ensures ∙ (c.loop-number.invariant ∙ ap (loops_below c.args.table.now c.args.walk.now.states.items c.args.marks.now) all)
+
+pub add_marked-requires-clause-walked : goal.add_marked-requires-clause-walked
+add_marked-requires-clause-walked c = c.requires

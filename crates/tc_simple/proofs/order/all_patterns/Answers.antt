@@ -29,12 +29,6 @@ returns c =
 pub put_pattern-requires-clause-marks : goal.put_pattern-requires-clause-marks
 put_pattern-requires-clause-marks c = c.requires.marks
 
-pub put_pattern-requires-clause-made : goal.put_pattern-requires-clause-made
-put_pattern-requires-clause-made c = c.loop-number.invariant.size
-
-pub put_pattern-requires-clause-numbers : goal.put_pattern-requires-clause-numbers
-put_pattern-requires-clause-numbers c = c.requires.numbers
-
 pub put_pattern-requires-clause-few : goal.put_pattern-requires-clause-few
 put_pattern-requires-clause-few c = c.requires.few
 
@@ -44,9 +38,12 @@ returns-in_err-put_pattern c = failed_ok c.from_residual-in_err-put_pattern.resu
 pub returns-in_err-made : goal.returns-in_err-made
 returns-in_err-made c = failed_ok c.from_residual.result _ _ c.from_residual.ensures.1
 
-pub put_pattern-requires-clause-within : goal.put_pattern-requires-clause-within
-put_pattern-requires-clause-within c =
+pub put_pattern-requires-clause-place : goal.put_pattern-requires-clause-place
+put_pattern-requires-clause-place c =
     let order = c.args.walk.now.order.items in
     let i = c.loop-number.number-index in
     let small : i < length order = subst (λ (z : List ℕ). i < length z) c.deref-number-items.ensures.value c.loop-number-test.true in
-    subst (λ (z : List ℕ). slice_index z i < length c.args.table.now.patterns.items) (sym c.deref-number-items.ensures.value) (c.requires.order i 0 small)
+    record {
+      within = subst (λ (z : List ℕ). slice_index z i < length c.args.table.now.patterns.items) (sym c.deref-number-items.ensures.value) (c.requires.order i 0 small);
+      room = c.loop-number.invariant.size;
+    }

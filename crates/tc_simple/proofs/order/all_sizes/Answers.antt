@@ -1,4 +1,4 @@
-use Rattle.std.proofs.Common.{◌≡◌, ◌∙◌, ◌<◌, ℕ, List, ap, arith, length, subst, slice_index}
+use Rattle.std.proofs.Common.{◌≡◌, ◌∙◌, ◌<◌, ℕ, List, ap, arith, length, subst, slice_index, sym}
 use Rattle.tc_simple.specs.Orders.{AreSized, PutsSize}
 use Rattle.tc_simple.proofs.Ordered.{puts_size_length, size_step}
 use Rattle.tc_simple.proofs.Answered.{failed_ok}
@@ -27,11 +27,15 @@ returns c =
 pub put_size-requires-clause-marks : goal.put_size-requires-clause-marks
 put_size-requires-clause-marks c = c.requires.marks
 
-pub put_size-requires-clause-sizes : goal.put_size-requires-clause-sizes
-put_size-requires-clause-sizes c = c.loop-number.invariant.size
-
-pub put_size-requires-clause-numbers : goal.put_size-requires-clause-numbers
-put_size-requires-clause-numbers c = c.requires.numbers
-
 pub returns-in_err-sizes : goal.returns-in_err-sizes
 returns-in_err-sizes c = failed_ok c.from_residual.result _ _ c.from_residual.ensures.1
+
+pub put_size-requires-clause-place : goal.put_size-requires-clause-place
+put_size-requires-clause-place c =
+    let order = c.args.walk.now.order.items in
+    let i = c.loop-number.number-index in
+    let small : i < length order = subst (λ (z : List ℕ). i < length z) c.deref-number-items.ensures.value c.loop-number-test.true in
+    record {
+      within = subst (λ (z : List ℕ). slice_index z i < length c.args.table.now.patterns.items) (sym c.deref-number-items.ensures.value) (c.requires.order i 0 small);
+      room = c.loop-number.invariant.size;
+    }

@@ -10,17 +10,17 @@ returns c =
     let k = c.args.number in
     let old = c.args.sizes.now in
     let one = c.index.result.now in
-    size_put t c.args.marks.now k one old (set old k c.measure-size.result) c.if-not-marks-number.false (slice_get_read t.patterns.items _ k one refl c.requires.within c.index.ensures)
+    size_put t c.args.marks.now k one old (set old k c.measure-size.result) c.if-not-marks-number.false (slice_get_read t.patterns.items _ k one refl c.requires.place.within c.index.ensures)
     (ap (set old k) c.measure-size.ensures)
 
 pub bounds-marks-number : goal.bounds-marks-number
-bounds-marks-number c = omega (arith, c.requires.within, c.requires.marks)
+bounds-marks-number c = omega (arith, c.requires.place.within, c.requires.marks.marks)
 
 pub index-requires : goal.index-requires
-index-requires c = omega (arith, c.requires.within, c.args.table.now.patterns.ok.0)
+index-requires c = omega (arith, c.requires.place.within, c.args.table.now.patterns.ok.0)
 
 pub measure-size-requires : goal.measure-size-requires
-measure-size-requires c = subst (HasNumbersBelow c.args.table.now) (sym c.requires.sizes) c.requires.numbers
+measure-size-requires c = subst (HasNumbersBelow c.args.table.now) (sym c.requires.place.room) c.requires.marks.numbers
 
 pub bounds-sizes-number : goal.bounds-sizes-number
-bounds-sizes-number c = omega (arith, c.requires.within, c.requires.sizes)
+bounds-sizes-number c = omega (arith, c.requires.place.within, c.requires.place.room)

@@ -10,16 +10,6 @@ use Rattle.tc_simple.proofs.Checked.{count_links, first_exists, numbers_below, s
 use Rattle.tc_simple.proofs.Resolving.{badly_is, first_is_loop, none_is_loop, well_is}
 use Rattle.tc_simple.proofs.resolve.check.Goals as goal
 
-pub first_loop-requires-clause-marks : goal.first_loop-requires-clause-marks
-first_loop-requires-clause-marks c = c.requires.resolves.reach.size ∙ count_links c.args.table.now true
-
-pub first_loop-requires-clause-states : goal.first_loop-requires-clause-states
-first_loop-requires-clause-states c = c.requires.resolves.components.size ∙ count_links c.args.table.now false
-
-pub first_loop-requires-clause-numbers : goal.first_loop-requires-clause-numbers
-first_loop-requires-clause-numbers c =
-    subst (HasNumbersBelow c.args.table.now) (sym (c.requires.resolves.components.size ∙ count_links c.args.table.now false)) (numbers_below (syntax c.args.syntax.now) c.args.table.now c.requires.resolves.table)
-
 pub mark-requires-clause-start : goal.mark-requires-clause-start
 mark-requires-clause-start c = start_within (syntax c.args.syntax.now) c.args.table.now c.args.start c.requires.resolves.table c.requires.resolves.begins
 
@@ -30,8 +20,8 @@ pub returns-in-Some-clause-err : goal.returns-in-Some-clause-err
 returns-in-Some-clause-err c =
     let t = c.args.table.now in
     let w = c.args.walk.now in (
-      c.requires.once,
-      c.requires.defined,
+      c.requires.names.once,
+      c.requires.names.defined,
       first_is_loop (syntax c.args.syntax.now) t c.args.start c.args.marks.now w.states.items w.order.items c.requires.resolves (place c.in-Some.place)
           (subst (IsFirstLoop t w.states.items c.args.marks.now) (ap maybe_place c.in-Some.is) c.in_ok-place.ensures),
     )
@@ -42,7 +32,7 @@ returns-in-Some-bad_except-clause-err c =
     let w = c.args.walk.now in
     let acyclic : IsAcyclic (syntax c.args.syntax.now) = none_is_loop (syntax c.args.syntax.now) t c.args.start c.args.marks.now w.states.items w.order.items c.requires.resolves
     (subst (IsFirstLoop t w.states.items c.args.marks.now) (ap maybe_place c.in_default.is) c.in_ok-place.ensures) in
-    (c.requires.once, c.requires.defined, acyclic, sym c.in-Some-bad_except.ensures)
+    (c.requires.names.once, c.requires.names.defined, acyclic, sym c.in-Some-bad_except.ensures)
 
 pub returns-then-starts-clause-ok : goal.returns-then-starts-clause-ok
 returns-then-starts-clause-ok c =
@@ -50,8 +40,8 @@ returns-then-starts-clause-ok c =
     let t = c.args.table.now in
     let w = c.args.walk.now in
     record {
-      once = c.requires.once;
-      defined = c.requires.defined;
+      once = c.requires.names.once;
+      defined = c.requires.names.defined;
       acyclic = none_is_loop s t c.args.start c.args.marks.now w.states.items w.order.items c.requires.resolves (subst (IsFirstLoop t w.states.items c.args.marks.now) (ap maybe_place c.in_default.is) c.in_ok-place.ensures);
       excepts = sym c.in_default-bad_except.ensures;
       start = well_is s t c.requires.resolves.table c.args.start c.requires.resolves.begins c.in_ok-below.below.items c.in_ok-below.ensures
@@ -67,8 +57,8 @@ returns-clause-err c =
     (subst (IsFirstLoop t w.states.items c.args.marks.now) (ap maybe_place c.in_default.is) c.in_ok-place.ensures) in
     let (p, got, is) = c.requires.resolves.table.present [] c.args.start c.requires.resolves.begins in
     let (first, e) = first_exists (definitions_of s.definitions []) is in (
-      c.requires.once,
-      c.requires.defined,
+      c.requires.names.once,
+      c.requires.names.defined,
       acyclic,
       sym c.in_default-bad_except.ensures,
       badly_is s t c.requires.resolves.table c.args.start c.requires.resolves.begins c.in_ok-below.below.items c.in_ok-below.ensures (place c.start_place.result)
@@ -95,3 +85,10 @@ returns-clause-ok c = tt
 
 pub starts_well-starts-requires : goal.starts_well-starts-requires
 starts_well-starts-requires c = ap (λ (m : List Bool). length m) c.deref.ensures.value ∙ (c.in_ok-below.ensures.size ∙ count_links c.args.table.now false)
+
+pub first_loop-requires : goal.first_loop-requires
+first_loop-requires c = record {
+  marks = c.requires.resolves.reach.size ∙ count_links c.args.table.now true;
+  states = c.requires.resolves.components.size ∙ count_links c.args.table.now false;
+  numbers = subst (HasNumbersBelow c.args.table.now) (sym (c.requires.resolves.components.size ∙ count_links c.args.table.now false)) (numbers_below (syntax c.args.syntax.now) c.args.table.now c.requires.resolves.table);
+}

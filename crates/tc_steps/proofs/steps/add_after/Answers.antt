@@ -8,7 +8,7 @@ use Rattle.tc_steps.proofs.steps.add_after.Goals.{then-is_taken, else-is_taken}
 use Rattle.tc_steps.proofs.steps.add_after.Goals as goal
 
 pub loop-before-init : goal.loop-before-init
-loop-before-init c = (c.requires.next, λ x st. element_none x (IsTaken x c.args.numbers.now c.args.ends.now) c.args.states.now c.args.next.now c.requires.none)
+loop-before-init c = (c.requires.sets.next, λ x st. element_none x (IsTaken x c.args.numbers.now c.args.ends.now) c.args.states.now c.args.next.now c.requires.none)
 
 pub loop-before-preserved : goal.loop-before-preserved
 loop-before-preserved c =

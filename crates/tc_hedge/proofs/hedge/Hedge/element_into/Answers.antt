@@ -13,10 +13,10 @@ returns-clause-around c = λ side x symbols st name is kids pairs.
     pairs_surround x side name kids c.args.inner.now c.put_around.new.out pairs (returns-clause-pairs c side x symbols st name is)
 
 pub returns-clause-size : goal.returns-clause-size
-returns-clause-size c = c.put_around.ensures.size
+returns-clause-size c = c.put_around.ensures.kept.size
 
 pub returns-clause-matrix : goal.returns-clause-matrix
-returns-clause-matrix c = c.put_around.ensures.matrix
+returns-clause-matrix c = c.put_around.ensures.kept.matrix
 
 pub put_around-requires-clause-inner : goal.put_around-requires-clause-inner
 put_around-requires-clause-inner c = c.requires.inner

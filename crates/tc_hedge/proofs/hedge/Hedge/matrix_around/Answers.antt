@@ -15,7 +15,7 @@ pub put_around-requires-clause-out : goal.put_around-requires-clause-out
 put_around-requires-clause-out c = c.in_ok-led.ensures.size ∙ c.states.ensures.here
 
 pub returns-clause-size : goal.returns-clause-size
-returns-clause-size c = c.put_around.ensures.size ∙ (c.in_ok-led.ensures.size ∙ c.states.ensures.here)
+returns-clause-size c = c.put_around.ensures.kept.size ∙ (c.in_ok-led.ensures.size ∙ c.states.ensures.here)
 
 pub returns-clause-matrix : goal.returns-clause-matrix
-returns-clause-matrix c = c.put_around.ensures.matrix
+returns-clause-matrix c = c.put_around.ensures.kept.matrix

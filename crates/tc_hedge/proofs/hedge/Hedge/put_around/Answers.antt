@@ -18,8 +18,8 @@ pub loop-before-preserved : goal.loop-before-preserved
 loop-before-preserved c =
     elim c.if-is_taken_around.branch [
       | then-is_taken_around w ↦ (
-        ap (λ (m : Matrix). m.size) w.out-is ∙ (w.put_arrows.ensures.size ∙ c.loop-before.invariant.0),
-        subst IsMatrix (sym w.out-is) w.put_arrows.ensures.matrix,
+        ap (λ (m : Matrix). m.size) w.out-is ∙ (w.put_arrows.ensures.kept.size ∙ c.loop-before.invariant.0),
+        subst IsMatrix (sym w.out-is) w.put_arrows.ensures.kept.matrix,
         λ side x st.
             let takes : IsTakenAround x side c.args.allowed.now c.args.inner.now (c.loop-before.before + 1) = (c.is_taken_around.ensures side x st).0 w.if-is_taken_around.true in
             λ i j.
@@ -40,14 +40,11 @@ returns-clause-pairs c = λ side x st.
     around_all x side c.args.allowed.now c.args.inner.now c.loop-before.before c.loop-before.out
     (omega (arith, c.loop-before-test.false, c.patterns-before-end.ensures.here, patterns_of side x c.args.self.now.auto st)) (c.loop-before.invariant.2 side x st)
 
-pub returns-clause-size : goal.returns-clause-size
-returns-clause-size c = c.loop-before.invariant.0 ∙ sym c.requires.out
-
-pub returns-clause-matrix : goal.returns-clause-matrix
-returns-clause-matrix c = c.loop-before.invariant.1
-
 pub is_taken_around-requires : goal.is_taken_around-requires
 is_taken_around-requires c = c.requires.inner
 
 pub put_arrows-requires-clause-matrix : goal.put_arrows-requires-clause-matrix
 put_arrows-requires-clause-matrix c = c.loop-before.invariant.1
+
+pub returns-clause-kept : goal.returns-clause-kept
+returns-clause-kept c = record { size = c.loop-before.invariant.0 ∙ sym c.requires.out; matrix = c.loop-before.invariant.1 }

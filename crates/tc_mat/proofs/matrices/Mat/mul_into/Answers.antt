@@ -14,28 +14,6 @@ returns-clause-pairs c =
     c.as_slice.ensures.value c.as_slice-2.ensures.value c.a.invariant c.b.invariant
     c.as_mut_slice.ensures.value c.as_mut_slice.ensures.len c.multiply.auto.out c.out.invariant.whole c.multiply.ensures
 
-pub multiply-requires-clause-left : goal.multiply-requires-clause-left
-multiply-requires-clause-left c =
-    let size = λ (m : Matrix). m.size in
-    let same : c.a.inside.n ≡ c.out.inside.n = ap size c.a.view_is ∙ (c.requires.left ∙ sym (ap size c.out.view_is)) in
-    ap length c.as_slice.ensures.value ∙ (c.a.invariant.whole ∙ ap (λ n. n * words_a_row n) same)
-
-pub multiply-requires-clause-right : goal.multiply-requires-clause-right
-multiply-requires-clause-right c =
-    let size = λ (m : Matrix). m.size in
-    let same : c.b.inside.n ≡ c.out.inside.n = ap size c.b.view_is ∙ (c.requires.right ∙ sym (ap size c.out.view_is)) in
-    ap length c.as_slice-2.ensures.value ∙ (c.b.invariant.whole ∙ ap (λ n. n * words_a_row n) same)
-
-pub multiply-requires-clause-room : goal.multiply-requires-clause-room
-multiply-requires-clause-room c = ap length c.as_mut_slice.ensures.value ∙ c.out.invariant.whole
-
-pub multiply-requires-clause-padded : goal.multiply-requires-clause-padded
-multiply-requires-clause-padded c =
-    let size = λ (m : Matrix). m.size in
-    let same : c.a.inside.n ≡ c.out.inside.n = ap size c.a.view_is ∙ (c.requires.left ∙ sym (ap size c.out.view_is)) in
-    subst (λ (n : ℕ). IsPadded n c.as_slice.result.now) same
-    (subst (λ (ws : List ℕ). IsPadded c.a.inside.n ws) (sym c.as_slice.ensures.value) (is_padded c.a.inside.n c.a.inside.rows.items c.a.invariant))
-
 pub invariant_of-out : goal.invariant_of-out
 invariant_of-out c =
     let size = λ (m : Matrix). m.size in
@@ -51,3 +29,17 @@ returns-clause-matrix c = invariant_of-out c
 
 pub returns-clause-size : goal.returns-clause-size
 returns-clause-size c = search rules
+
+pub multiply-requires : goal.multiply-requires
+multiply-requires c =
+    let size = λ (m : Matrix). m.size in
+    let out = ap size c.out.view_is in
+    let left : c.a.inside.n ≡ c.out.inside.n = ap size c.a.view_is ∙ (c.requires.left ∙ sym out) in
+    let right : c.b.inside.n ≡ c.out.inside.n = ap size c.b.view_is ∙ (c.requires.right ∙ sym out) in
+    record {
+      left = ap length c.as_slice.ensures.value ∙ (c.a.invariant.whole ∙ ap (λ n. n * words_a_row n) left);
+      right = ap length c.as_slice-2.ensures.value ∙ (c.b.invariant.whole ∙ ap (λ n. n * words_a_row n) right);
+      room = ap length c.as_mut_slice.ensures.value ∙ c.out.invariant.whole;
+      padded = subst (λ (n : ℕ). IsPadded n c.as_slice.result.now) left
+          (subst (λ (ws : List ℕ). IsPadded c.a.inside.n ws) (sym c.as_slice.ensures.value) (is_padded c.a.inside.n c.a.inside.rows.items c.a.invariant));
+    }

@@ -16,20 +16,16 @@ returns-clause-led c = λ x n m kids inside f known is ended led.
 pub index-requires : goal.index-requires
 index-requires c = omega (arith, c.requires.symbol, c.args.self.now.counted)
 
-pub pass_element-requires-clause-numbers : goal.pass_element-requires-clause-numbers
-pass_element-requires-clause-numbers c =
+pub pass_element-requires : goal.pass_element-requires
+pass_element-requires c =
     let low : c.args.symbol.0 < length c.args.self.now.classes.items = omega (arith, c.requires.symbol, c.args.self.now.counted) in
     let at = slice_get_read c.args.self.now.classes.items _ c.args.symbol.0 c.index.result.now refl low c.index.ensures in
-    (c.args.self.now.sized c.args.symbol.0 c.index.result.now at).numbers
-
-pub pass_element-requires-clause-ends : goal.pass_element-requires-clause-ends
-pass_element-requires-clause-ends c = c.requires.ends
-
-pub pass_element-requires-clause-size : goal.pass_element-requires-clause-size
-pass_element-requires-clause-size c = c.requires.size
-
-pub pass_element-requires-clause-next : goal.pass_element-requires-clause-next
-pass_element-requires-clause-next c = c.args.self.now.next_sized
+    record {
+      numbers = (c.args.self.now.sized c.args.symbol.0 c.index.result.now at).numbers;
+      ends = c.requires.ends;
+      size = c.requires.size;
+      next = c.args.self.now.next_sized;
+    }
 
 pub returns-clause-size : goal.returns-clause-size
 returns-clause-size c = c.pass_element.ensures.size

@@ -5,27 +5,21 @@ use Rattle.tc_model.specs.Views as see
 use Rattle.tc_steps.proofs.ClassLaws.{set_known, set_sized, stays_known, met_classes}
 use Rattle.tc_steps.proofs.table.Steps.symbol.Goals as goal
 
-pub meet-requires-clause-numbers : goal.meet-requires-clause-numbers
-meet-requires-clause-numbers c =
+pub meet-requires : goal.meet-requires
+meet-requires c =
     let low : c.sym_of-symbol.result.0 < length c.args.self.now.classes.items = omega (arith, c.sym_of-symbol.ensures.below, c.args.self.now.counted) in
     let at = slice_get_read c.args.self.now.classes.items _ c.sym_of-symbol.result.0 c.index_mut.result.now refl low c.index_mut.ensures.value in
-    (c.args.self.now.sized c.sym_of-symbol.result.0 c.index_mut.result.now at).numbers
-
-pub meet-requires-clause-firsts : goal.meet-requires-clause-firsts
-meet-requires-clause-firsts c =
-    let low : c.sym_of-symbol.result.0 < length c.args.self.now.classes.items = omega (arith, c.sym_of-symbol.ensures.below, c.args.self.now.counted) in
-    let at = slice_get_read c.args.self.now.classes.items _ c.sym_of-symbol.result.0 c.index_mut.result.now refl low c.index_mut.ensures.value in
-    (c.args.self.now.sized c.sym_of-symbol.result.0 c.index_mut.result.now at).firsts
+    c.args.self.now.sized c.sym_of-symbol.result.0 c.index_mut.result.now at
 
 pub returns-clause-known : goal.returns-clause-known
 returns-clause-known c =
     let low : c.sym_of-symbol.result.0 < length c.args.self.now.classes.items = omega (arith, c.sym_of-symbol.ensures.below, c.args.self.now.counted) in
-    set_known c.args.self.now.classes.items c.sym_of-symbol.result.0 c.meet.new.self low c.meet.ensures.known
+    set_known c.args.self.now.classes.items c.sym_of-symbol.result.0 c.meet.new.self low c.meet.ensures.learns.known
 
 pub returns-clause-stays : goal.returns-clause-stays
 returns-clause-stays c =
     let low : c.sym_of-symbol.result.0 < length c.args.self.now.classes.items = omega (arith, c.sym_of-symbol.ensures.below, c.args.self.now.counted) in
-    stays_known c.args.self.now.classes.items c.sym_of-symbol.result.0 c.meet.new.self low c.meet.ensures.known
+    stays_known c.args.self.now.classes.items c.sym_of-symbol.result.0 c.meet.new.self low c.meet.ensures.learns.known
 
 pub returns-clause-right : goal.returns-clause-right
 returns-clause-right c = λ x f.
@@ -36,8 +30,8 @@ returns-clause-right c = λ x f.
       other = f.other;
       sheet = f.sheet;
       symbols_are = f.symbols_are;
-      classes_are = met_classes x f.other f.sheet c.args.self.now.alphabet.now (see.name c.args.name.now) c.args.self.now.classes.items c.sym_of-symbol.result.0 c.index_mut.result.now c.meet.new.self at c.meet.ensures.known c.meet.ensures.stays
-          (λ u. c.meet.ensures.allowed u x f.stands) (λ u. c.meet.ensures.led u x f.stands) f.classes_are (λ m e. c.sym_of-symbol.ensures.alike x f.other f.sheet f.symbols_are m e);
+      classes_are = met_classes x f.other f.sheet c.args.self.now.alphabet.now (see.name c.args.name.now) c.args.self.now.classes.items c.sym_of-symbol.result.0 c.index_mut.result.now c.meet.new.self at c.meet.ensures.learns.known c.meet.ensures.learns.stays
+          (λ u. (c.meet.ensures.right u x f.stands).allowed) (λ u. (c.meet.ensures.right u x f.stands).led) f.classes_are (λ m e. c.sym_of-symbol.ensures.alike x f.other f.sheet f.symbols_are m e);
     }
 
 pub index_mut-requires : goal.index_mut-requires
@@ -52,10 +46,8 @@ returns-clause-below c = c.sym_of-symbol.ensures.below
 pub invariant_of-self : goal.invariant_of-self
 invariant_of-self c =
     let low : c.sym_of-symbol.result.0 < length c.args.self.now.classes.items = omega (arith, c.sym_of-symbol.ensures.below, c.args.self.now.counted) in
-    let at = slice_get_read c.args.self.now.classes.items _ c.sym_of-symbol.result.0 c.index_mut.result.now refl low c.index_mut.ensures.value in
-    let old = c.args.self.now.sized c.sym_of-symbol.result.0 c.index_mut.result.now at in
     record {
-      sized = set_sized c.args.self.now.classes.items c.sym_of-symbol.result.0 c.meet.new.self low c.meet.ensures.known _ c.args.self.now.sized (record { numbers = c.meet.ensures.numbers ∙ old.numbers; firsts = c.meet.ensures.firsts ∙ old.firsts });
+      sized = set_sized c.args.self.now.classes.items c.sym_of-symbol.result.0 c.meet.new.self low c.meet.ensures.learns.known _ c.args.self.now.sized c.meet.ensures.sized;
       counted = length-set _ _ _ ∙ c.args.self.now.counted;
       next_sized = c.args.self.now.next_sized;
     }
