@@ -14,3 +14,4 @@ pub mod Answers
 pub mod Schemas
 pub mod Stops
 pub mod Texts
+pub mod Beginnings

@@ -4,6 +4,7 @@ ghost use Rattle.tc_model.specs.CompactSyntaxNames as names;
 ghost use Rattle.tc_model.specs.CompactSyntaxStops as stops;
 ghost use Rattle.tc_model.specs.CompactSyntaxUnread as unread;
 ghost use Rattle.tc_model.specs.Names.{xmlns_uri};
+ghost use Rattle.tc_rnc.specs.Beginnings.{IsDefaultAlone, IsDefaultAndPrefix};
 ghost use Rattle.tc_rnc.specs.Refusals.{Refuses};
 ghost use Rattle.tc_rnc.specs.Schemas as schemas;
 ghost use Rattle.tc_rnc.specs.Scopes.{scope_of};
@@ -180,9 +181,7 @@ fn default_alone<'b, 's, 't>(
     rest: &'s [Token<'t>],
     end: End,
 ) -> Result<&'s [Token<'t>], RncFault>
-    requires words { schemas.StartsWithBoth (codes "default") (codes "namespace")
-        (seen.tokens tokens.now) (seen.tokens rest.now) }
-    requires alone { schemas.BeginsEquals (seen.tokens rest.now) }
+    requires { IsDefaultAlone (seen.tokens tokens.now) (seen.tokens rest.now) }
     ensures ok { IfOk result
         (λ r. names.DeclarationAt (scope_of scope.old) (seen.tokens tokens.now)
         (scope_of scope.new) (seen.tokens r.now)) }
@@ -211,9 +210,7 @@ fn default_and_prefix<'b, 's, 't>(
     rest: &'s [Token<'t>],
     end: End,
 ) -> Result<&'s [Token<'t>], RncFault>
-    requires words { schemas.StartsWithBoth (codes "default") (codes "namespace")
-        (seen.tokens tokens.now) (seen.tokens rest.now) }
-    requires both { names.LacksMark 61 (seen.tokens rest.now) }
+    requires { IsDefaultAndPrefix (seen.tokens tokens.now) (seen.tokens rest.now) }
     ensures ok { IfOk result
         (λ r. names.DeclarationAt (scope_of scope.old) (seen.tokens tokens.now)
         (scope_of scope.new) (seen.tokens r.now)) }

@@ -8,6 +8,7 @@ ghost use Rattle.tc_model.specs.Views.{place as seen_place};
 ghost use Rattle.tc_rnc.specs.Blocks as blocks;
 ghost use Rattle.tc_model.specs.CompactSyntaxStops as stops;
 ghost use Rattle.tc_model.specs.CompactSyntaxUnread as unread;
+ghost use Rattle.tc_rnc.specs.Beginnings.{IsNoDefinition};
 ghost use Rattle.tc_rnc.specs.Refusals.{Refuses};
 ghost use Rattle.tc_rnc.specs.Stops as parts;
 ghost use Rattle.tc_rnc.specs.Scopes.{scope_of};
@@ -88,10 +89,7 @@ fn is_end(tokens: &[Token<'_>]) -> bool
 
 /// The refusal of what stands where a definition should.
 fn no_definition(first: &Token<'_>, tokens: &[Token<'_>], end: End) -> RncFault
-    requires first { blocks.IsFirst (seen.token first.now) (seen.tokens tokens.now) }
-    requires more { blocks.IsEndOfDefinitions (seen.tokens tokens.now) → ⊥ }
-    requires no_div { names.IsWord (codes "div") (seen.token first.now) → ⊥ }
-    requires nothing { blocks.DefinesNothing (seen.token first.now) }
+    requires { IsNoDefinition (seen.token first.now) (seen.tokens tokens.now) }
     ensures { Refuses (unread.NoDefinition (seen.end end) (seen.tokens tokens.now)) result }
 {
     if first.is_name("include") {

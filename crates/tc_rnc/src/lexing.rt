@@ -1,5 +1,5 @@
 // All tokens of a text.
-ghost use Rattle.std.specs.Prelude.{◌≡◌, ◌+◌, ◌≤◌, ℕ, List, None, Some, length, IfOk, MatchBool, MatchOption};
+ghost use Rattle.std.specs.Prelude.{◌≡◌, ◌+◌, ◌≤◌, ◌++◌, ◌∷◌, [], ℕ, List, None, Some, length, IfOk, OnOk, MatchBool, MatchOption};
 ghost use Rattle.tc_model.specs.CompactSyntaxRefused as refused;
 ghost use Rattle.tc_model.specs.CompactSyntaxTokens as model;
 ghost use Rattle.tc_model.specs.XmlText as xml_text;
@@ -62,6 +62,21 @@ fn token_at(total: usize, text: &str) -> Option<(Token<'_>, &str)>
     Some((Token { word, place }, after))
 }
 
+/// Adds a token; where there is no room left, room for so many in all is taken at once.
+fn add<'t, 'b>(
+    list: &mut Vec<Token<'t>, &'b Bump>,
+    token: Token<'t>,
+    most: usize,
+) -> Result<(), AllocError>
+    ensures items { OnOk result (list.new.items ≡ list.old.items ++ token.entry ∷ []) }
+{
+    if list.len() == list.capacity() {
+        list.reserve(most.saturating_sub(list.len()))?;
+    }
+    list.push(token)?;
+    Ok(())
+}
+
 /// The tokens at the front of a text, and what follows them, where no word stands.
 fn tokens_at<'t, 'b>(
     arena: &'b Bump,
@@ -72,11 +87,11 @@ fn tokens_at<'t, 'b>(
     requires bounded { total ≤ 67108864 }
     ensures { IfOk result (λ r. ReadsAllTokens total text.now (seen.tokens r.0.items) r.1.now) }
 {
-    // A token has at least one byte.
-    let mut list = Vec::with_capacity(arena, text.len())?;
+    // Most tokens have several bytes, each at least one.
+    let mut list = Vec::with_capacity(arena, text.len() / 8)?;
     let mut rest = after_space(text);
     while let Some((token, after)) = token_at(total, rest) {
-        list.push(token)?;
+        add(&mut list, token, text.len())?;
         rest = after_space(after);
     }
     Ok((list, rest))

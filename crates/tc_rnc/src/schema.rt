@@ -5,6 +5,7 @@ ghost use Rattle.tc_model.specs.CompactSyntaxNames as names;
 ghost use Rattle.tc_model.specs.CompactSyntaxStops as stops;
 ghost use Rattle.tc_model.specs.CompactSyntaxTrees as trees;
 ghost use Rattle.tc_model.specs.XmlTextScopes.{first_scope};
+ghost use Rattle.tc_rnc.specs.Beginnings.{IsPatternAlone};
 ghost use Rattle.tc_rnc.specs.Refusals.{Refuses};
 ghost use Rattle.tc_rnc.specs.Schemas as schemas;
 ghost use Rattle.tc_rnc.specs.Scopes.{scope_of};
@@ -84,9 +85,7 @@ fn start_alone<'b>(arena: &'b Bump, body: SPat<'b>) -> Result<&'b [Def<'b>], Rnc
 impl<'b> Parser<'b> {
     /// Reads one pattern, which defines `start`.
     fn whole_pattern<'s, 't>(&self, tokens: &'s [Token<'t>]) -> Result<&'b [Def<'b>], RncFault>
-        requires declared { schemas.LacksDeclaration (seen.tokens tokens.now) }
-        requires alone { stops.LacksWord (codes "grammar") (seen.tokens tokens.now) }
-        requires undefined { schemas.LacksDefinitions (seen.tokens tokens.now) }
+        requires { IsPatternAlone (seen.tokens tokens.now) }
         ensures ok { IfOk result
             (λ r. model.SchemaAt false (scope_of self.now.scope) 2000 (seen.tokens tokens.now)
             (map seen.definition r.now)) }

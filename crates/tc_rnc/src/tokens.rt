@@ -1,7 +1,7 @@
 // The tokens of a text.
-// A token takes 32 bytes, in room that is taken at once for one at each byte, of which only what is used
-// becomes resident. A prefix and its local name are one piece of the text, cut at the colon where they are
-// looked up.
+// A token takes 32 bytes, in room that is taken for one at each eighth byte and, where there are more, at
+// once for one at each byte, of which only what is used becomes resident. A prefix and its local name are
+// one piece of the text, cut at the colon where they are looked up.
 ghost use Rattle.std.specs.Prelude.{◌≡◌, ◌+◌, ◌≤◌, ℕ, List, None, Some, length, MatchBool, MatchOption, IfSome};
 ghost use Rattle.tc_model.specs.CompactSyntaxNames as names;
 ghost use Rattle.tc_rnc.specs.Extents.{extent};

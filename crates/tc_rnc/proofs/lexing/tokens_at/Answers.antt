@@ -25,7 +25,7 @@ loop-token-preserved c =
     let before = c.loop-token in
     record {
       reads = subst (λ z. ReadsTokens c.args.total c.args.text.now z space.result.now)
-          (sym (ap seen.tokens c.in_ok-push.ensures.items ∙ tokens_append before.list.items (c.in-Some.token ∷ [])))
+          (sym (ap seen.tokens c.in_ok-add.ensures.items ∙ tokens_append before.list.items (c.in-Some.token ∷ [])))
           (one_more_read c.args.total c.args.text.now before.rest.now c.in-Some.after.now space.result.now (seen.tokens before.list.items) (seen.token c.in-Some.token)
           before.invariant.reads c.in-Some.ensures.0 c.in-Some.ensures.1 space.ensures.skips space.ensures.stops);
       text = space.utf8;
