@@ -1,5 +1,5 @@
 -- What a move puts out where it selects a node, and where it does not.
-use Rattle.std.proofs.Common.{◌≡◌, ℕ, ◌+◌, ◌<◌, ◌≤◌, List, ap, ◌∙◌, sym, subst, Bool, true, false, cond, drop, length, get_or, Some, Bor}
+use Rattle.std.proofs.Common.{◌≡◌, ℕ, ◌+◌, ◌<◌, ◌≤◌, List, ap, ◌∙◌, sym, subst, Bool, cond, drop, length, get_or, Some, Bor}
 use Rattle.std.proofs.lemmas.Option.{same_Some}
 use Rattle.std.proofs.lemmas.List.{drop_all}
 use Rattle.tc_model.specs.Chains.{Tree, an_element, a_text, one}
@@ -58,23 +58,18 @@ module _ (r : Runner) where
   first_going k p mode j s t = record { mode = mode; state = s; task = t }
 
   -- the state below an element
-  abbrev IsStep : ℕ → ℕ → Letter → Type 0
-  IsStep k below x =
-      (symbols : List Mention) (w : PathUse) (y : State) → IsRulesOf symbols r.rules.now → IsLetter symbols (predicates_by r) x → IsStateOf (told_by r) k w y
-      → IsStateOf (told_by r) below w (select_below symbols (told_by r) w y x)
+  abbrev pub IsStep : ℕ → ℕ → Letter → Type 0
+  IsStep k below x = (w : PathUse) (y : State) → IsStateOf (told_by r) k w y → IsStateOf (told_by r) below w (select_below (symbols_by r) (told_by r) w y x)
 
-  pub move_below : (k below : ℕ) (x : Letter) → IsSomeMove (told_by r) k → IsRunner r → IsLetter (symbols_by r) (predicates_by r) x → IsStep k below x → IsSomeMove (told_by r) below
-  move_below k below x s is lx ens =
-      record { path = s.path; mode = s.mode; state = _; at = ens (symbols_by r) (record { path = s.path; mode = Some s.mode }) s.state is lx s.at }
+  pub move_below : (k below : ℕ) (x : Letter) → IsSomeMove (told_by r) k → IsStep k below x → IsSomeMove (told_by r) below
+  move_below k below x s ens = record { path = s.path; mode = s.mode; state = _; at = ens (record { path = s.path; mode = Some s.mode }) s.state s.at }
 
-  pub going_below : (bodies : List CallFreeBody) (k below : ℕ) (g : Going) (x : Letter) → (at : IsMoveAt (told_by r) k g) → IsRunner r → IsLetter (symbols_by r) (predicates_by r) x → IsStep k below x
-      → IsMoveAt (told_by r) below ((machine r bodies).move_step g x)
-  going_below bodies k below g x at is lx ens =
-      record { mode = at.mode; state = ens (symbols_by r) (record { path = g.path; mode = Some at.mode }) g.state is lx at.state; task = at.task }
+  pub going_below : (bodies : List CallFreeBody) (k below : ℕ) (g : Going) (x : Letter) → (at : IsMoveAt (told_by r) k g) → IsStep k below x → IsMoveAt (told_by r) below ((machine r bodies).move_step g x)
+  going_below bodies k below g x at ens = record { mode = at.mode; state = ens (record { path = g.path; mode = Some at.mode }) g.state at.state; task = at.task }
 
   module _ (bodies : List CallFreeBody) (above : ℕ) (g : Going) where
     -- on a text
-    pub text_outs : (s : List ℕ) (x : Letter) (b : Bool) → x ≡ letter_of (symbols_by r) (predicates_by r) (a_text s) → b ≡ (machine r bodies).move_hits g x
+    text_outs : (s : List ℕ) (x : Letter) (b : Bool) → x ≡ letter_of (symbols_by r) (predicates_by r) (a_text s) → b ≡ (machine r bodies).move_hits g x
         → outputs_on r bodies (t.text s t.none) above g
         ≡ cond b (counted (does_in (machine r bodies) ((machine r bodies).body_at g.task (ancestor (told_by r) above) x) (one (a_text s)) (λ i u. nothing))) nothing
     text_outs s x b e h =
@@ -84,18 +79,9 @@ module _ (r : Runner) where
         let f : Letter → Outcome = λ y. cond (m.move_hits g y) (hit y) nothing in
         ap (λ y. join (f y) nothing) (sym e) ∙ (join_none (f x) ∙ ap (λ c. cond c (hit x) nothing) (sym h))
 
-    pub text_missed : (s : List ℕ) (x : Letter) (b : Bool) → x ≡ letter_of (symbols_by r) (predicates_by r) (a_text s) → b ≡ (machine r bodies).move_hits g x → b ≡ false
-        → outputs_on r bodies (t.text s t.none) above g ≡ nothing
-    text_missed s x b e h f =
-        let m = machine r bodies in
-        let hit : Outcome = counted (does_in m (m.body_at g.task (ancestor (told_by r) above) x) (one (a_text s)) (λ i u. nothing)) in
-        text_outs s x b e h ∙ ap (λ c. cond c hit nothing) f
-
-    pub text_met : (s : Bor (List ℕ)) (kids : Bor (List Lettered)) (x : Letter) (b : Bool) → x ≡ letter_of (symbols_by r) (predicates_by r) (a_text s.now)
-        → b ≡ (machine r bodies).move_hits g x → b ≡ true
-        → outputs_on r bodies (t.text s.now t.none) above g
-        ≡ counted (does r bodies ((machine r bodies).body_at g.task (ancestor (told_by r) above) x) (here_text s kids above))
-    text_met s kids x b e h f = text_outs s.now x b e h ∙ ap (λ c. cond c (counted (does r bodies ((machine r bodies).body_at g.task (ancestor (told_by r) above) x) (here_text s kids above))) nothing) f
+    pub text_visited : (s : Bor (List ℕ)) (kids : Bor (List Lettered)) (x : Letter) (b : Bool) → x ≡ letter_of (symbols_by r) (predicates_by r) (a_text s.now) → b ≡ (machine r bodies).move_hits g x
+        → outputs_on r bodies (t.text s.now t.none) above g ≡ cond b (counted (does r bodies ((machine r bodies).body_at g.task (ancestor (told_by r) above) x) (here_text s kids above))) nothing
+    text_visited s kids x b e h = text_outs s.now x b e h
 
     -- the tree that comes next in a loop
     pub outs_next : (ns : List Lettered) (i : ℕ) (x : Lettered) → i < length ns → x ≡ get_or ns i x
@@ -103,12 +89,6 @@ module _ (r : Runner) where
     outs_next ns i x h e = ap (λ z. outputs_on r bodies (bare z) above g) (left_one ns i x h e) ∙ outputs_beside r bodies above g x (trees (drop (i + 1) ns))
 
 -- on an element
-pub missed : (b : Bool) (o : Outcome) → b ≡ false → cond b o nothing ≡ nothing
-missed b o f = ap (λ c. cond c o nothing) f
-
-pub met : (b : Bool) (o : Outcome) → b ≡ true → cond b o nothing ≡ o
-met b o f = ap (λ c. cond c o nothing) f
-
 pub element_built_in : (h : Context) (n : ExpandedName) (kids : t.Trees) (k : ℕ) → node h ≡ one (an_element n kids) → (i : ℕ) → built_in_at i (of_symbol k) ≡ built_in i (node h)
 element_built_in h n kids k e i = ap (built_in i) (sym e)
 

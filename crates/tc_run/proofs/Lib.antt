@@ -25,3 +25,4 @@ pub mod Ends
 pub mod FoundLow
 pub mod Asking
 pub mod Tested
+pub mod Visiting

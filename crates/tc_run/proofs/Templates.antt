@@ -25,8 +25,8 @@ use Rattle.tc_rules.specs.Parts.{IsPart}
 use Rattle.tc_run.specs.Running.{IsRunner, HasBodies, sheet_by, symbols_by, predicates_by, machine}
 use Rattle.tc_rules.specs.Tasks.{IsTaskOf}
 use Rattle.tc_run.specs.Tasks.{IsMeantBy, built_in}
-use Rattle.tc_run.specs.declared.bodies.Template.{Template}
-use Rattle.tc_run.specs.declared.bodies.Template.TheVariants as m
+use Rattle.tc_run.specs.declared.visits.Template.{Template}
+use Rattle.tc_run.specs.declared.visits.Template.TheVariants as m
 use Rattle.tc_run.specs.declared.runner.Runner.{Runner}
 use Rattle.tc_run.proofs.Members.{has_got}
 use Rattle.tc_rules.proofs.PartsOf.{rule_part, named_part, each_part}

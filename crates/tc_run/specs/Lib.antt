@@ -2,6 +2,9 @@ pub mod Lettered
 pub mod Views
 pub mod Running
 pub mod Tasks
+pub mod Sights
+pub mod Visits
+pub mod Ready
 pub mod Spent
 pub mod Limits
 pub mod Named

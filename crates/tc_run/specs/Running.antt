@@ -6,10 +6,8 @@ use Rattle.tc_model.specs.Machine.{Machine}
 use Rattle.tc_model.specs.Symbols.{Mention}
 use Rattle.tc_model.specs.Numberings.{predicates_of}
 use Rattle.tc_rules.specs.Kept.{IsRulesOf, told}
-use Rattle.tc_rules.specs.KnownRules.{AreKnown}
 use Rattle.tc_rules.specs.States.{AllInline, states}
 use Rattle.tc_rules.specs.RulesView.{RulesView}
-use Rattle.tc_rules.specs.declared.known_rules.KnownRules.{KnownRules}
 use Rattle.tc_run.specs.Lettered.{Lettered, lettered, IsLettered}
 use Rattle.tc_run.specs.declared.runner.Runner.{Runner}
 
@@ -27,10 +25,6 @@ predicates_by r = predicates_of (sheet_by r)
 
 abbrev pub IsRunner : Runner → Type 0
 IsRunner r = IsRulesOf (symbols_by r) r.rules.now
-
--- the rules that are remembered were found by those of the run
-pub record AreFoundBy (r : Runner) (k : KnownRules) : Type 0 where
-  pub known : AreKnown (symbols_by r) (told_by r) k
 
 -- trees with their letters
 abbrev pub lettered_by : Runner → Trees → Lettered

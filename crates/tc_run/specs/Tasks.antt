@@ -13,8 +13,8 @@ use Rattle.tc_rules.specs.RulesView.{ancestor}
 use Rattle.tc_run.specs.Running.{told_by, machine}
 use Rattle.tc_run.specs.Views.{node}
 use Rattle.tc_run.specs.declared.bodies.Context.{Context}
-use Rattle.tc_run.specs.declared.bodies.Template.{Template}
-use Rattle.tc_run.specs.declared.bodies.Template.TheVariants as m
+use Rattle.tc_run.specs.declared.visits.Template.{Template}
+use Rattle.tc_run.specs.declared.visits.Template.TheVariants as m
 use Rattle.tc_run.specs.declared.runner.Runner.{Runner}
 
 -- what a task puts out on what a state selects in trees and below, the ancestor state above them being given by its number

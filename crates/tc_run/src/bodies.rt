@@ -1,38 +1,40 @@
 // What bodies put out (XSLT 1.0, 5 to 9).
 //
 // A node is known by its children with their letters and by the ancestor state at it. Each function puts out into `output`, and is given
-// how many bodies and instructions stand around what it does, and which rules were found so far.
-ghost use Rattle.std.specs.Prelude.{◌≡◌, ◌≤◌, ◌<◌, ℕ, List, length, cond, Contains, Option, option_map, IfSome, OnOk};
+// how many bodies and instructions stand around what it does, and what is remembered of nodes.
+ghost use Rattle.std.specs.Prelude.{◌≡◌, ◌≤◌, ◌<◌, ℕ, List, cond, Contains, is_some, IfSome, OnOk};
 ghost use Rattle.tc_model.specs.Chains as c;
 ghost use Rattle.tc_model.specs.Letters as letters;
 ghost use Rattle.tc_model.specs.Machine.{CallFreeJob, in_mode, first_hit as first_hit_of, does_in, does_at, takes_in};
 ghost use Rattle.tc_model.specs.Meaning.{all_children as all_children_of, value_of_first};
-ghost use Rattle.tc_model.specs.Names.{ExpandedName};
 ghost use Rattle.tc_model.specs.Numberings.{looks_of, moves_of};
 ghost use Rattle.tc_model.specs.Outcomes.{Outcome, nothing, counted, put_around, copied};
 ghost use Rattle.tc_model.specs.Views as see;
 ghost use Rattle.tc_model.specs.Sheets.{no_instruction, otherwise, CallFreeBody, CallFreeBranches, Inlines, BranchesInline};
 ghost use Rattle.tc_model.specs.Trees as t;
-ghost use Rattle.tc_rules.specs.Asked.{letter as see_letter, found as found_of};
-ghost use Rattle.tc_rules.specs.Jobs.{IsJob};
+ghost use Rattle.tc_rules.specs.Asked.{letter as see_letter};
 ghost use Rattle.tc_rules.specs.Views.{mode_of};
-ghost use Rattle.tc_rules.specs.States.{Chosen, Going, built_in_at, plain_of};
-ghost use Rattle.tc_rules.specs.RulesView.{ancestor};
+ghost use Rattle.tc_rules.specs.States.{Going};
 ghost use Rattle.tc_run.specs.Lettered as l;
 ghost use Rattle.tc_rules.specs.Parts.{IsPart, ArePartBranches};
-ghost use Rattle.tc_run.specs.Running.{AreFoundBy, IsRunner, IsLetteredBy, HasBodies, told_by, sheet_by, symbols_by, predicates_by, machine, looking};
-ghost use Rattle.tc_run.specs.Views.{trees, before, node, IsContext};
+ghost use Rattle.tc_run.specs.Running.{IsLetteredBy, HasBodies, told_by, sheet_by, symbols_by, predicates_by, machine, looking};
+ghost use Rattle.tc_run.specs.Ready.{IsDocument, IsAt, IsReadyOn, IsReadyBelow, StaysReady};
+ghost use Rattle.tc_run.specs.Sights.{AreSeenBy};
+ghost use Rattle.tc_run.specs.Views.{trees, before, node};
 ghost use Rattle.tc_run.specs.Spent.{Answers};
-ghost use Rattle.tc_rules.specs.Tasks.{IsTaskOf, IsMoveAt, IsSomeMove, going_from, looking_from};
+ghost use Rattle.tc_rules.specs.Tasks.{IsTaskOf, IsMoveAt, going_from, looking_from};
 ghost use Rattle.tc_run.specs.Tasks.{IsMeantBy, IsPartTemplate, built_in as built_in_of, does, outputs_on};
 
 use crate::RunFault;
-use crate::letters::{Letter, Lettered};
+use crate::letters::Lettered;
 use crate::looks::{first_hit, holds};
 use crate::output::{Output, deeper};
 use crate::runner::Runner;
+use crate::sights::KnownSights;
+use crate::visits::{KnownNodes, Template, template_of};
+use bumpalo::Bump;
 use tc_model::{Branch, Instr, Name, NodeTest, Path, Step, Test};
-use tc_rules::{Found, Job, Kind, KnownRules, Marks};
+use tc_rules::{Job, Kind, Marks};
 
 /// All children of a node.
 static ALL_CHILDREN: Path<'static> = Path {
@@ -67,23 +69,15 @@ pub(crate) struct Context<'b> {
     pub(crate) above: u32,
 }
 
-/// What is to be instantiated on a node: a body, or what the built-in rules say in a mode.
-#[derive(Clone, Copy)]
-pub(crate) enum Template<'b> {
-    Body(&'b [Instr<'b>]),
-    BuiltIn(u32),
-}
-
 /// The rule of the root in the default mode.
 pub(crate) fn root<'b>(
+    arena: &'b Bump,
     runner: &Runner<'_, 'b>,
     nodes: &'b [Lettered<'b>],
     string: &'b str,
     output: &mut Output<'b>,
 ) -> Result<(), RunFault>
-    requires runner { IsRunner runner.now }
-    requires nodes { IsLetteredBy runner.now (trees nodes.now) }
-    requires string { string.now ≡ c.joined_texts (l.bare (trees nodes.now)) }
+    requires document { IsDocument runner.now (trees nodes.now) string.now }
     requires work { output.old.work ≤ 4000000 }
     ensures few { OnOk result (output.new.work ≤ 4000000) }
     ensures outcome { (bodies : List CallFreeBody) → HasBodies runner.now bodies
@@ -100,59 +94,33 @@ pub(crate) fn root<'b>(
     };
     let found = runner.rules.root_rule(0);
     let rule = template_of(runner, 0, found);
-    let mut known = KnownRules::new(runner.rules)?;
+    let mut known = KnownNodes::new(arena)?;
     let done = instantiate(runner, rule, &here, 0, output, &mut known);
     drop(known);
     done
 }
 
-/// What a rule says, or the built-in ones in a mode.
-fn template_of<'b>(runner: &Runner<'_, 'b>, mode: u32, found: Found) -> Template<'b>
-    requires runner { IsRunner runner.now }
-    requires mode { mode < (sheet_by runner.now).modes }
-    requires found { IfSome (found_of found) (λ i. i < length (sheet_by runner.now).rules) }
-    ensures part { IsPartTemplate (sheet_by runner.now) result }
-    ensures meant { (bodies : List CallFreeBody) (n : c.Node) (o : Option Chosen)
-        → HasBodies runner.now bodies → option_map (λ w. w.number) o ≡ found_of found →
-        IsMeantBy (sheet_by runner.now).named n result (plain_of bodies (built_in_of mode n) o) }
-{
-    match found {
-        Found::BuiltIn => Template::BuiltIn(mode),
-        Found::Rule(number) => Template::Body(runner.rules.sheet().rules[number as usize].body),
-    }
-}
-
-/// What is to be done on a node of a letter.
-fn template_for<'b>(
+/// Instantiates a body that counts, if there is one.
+#[cycle(bodies)]
+fn instantiate_some<'b>(
     runner: &Runner<'_, 'b>,
-    known: &mut KnownRules,
-    job: Job,
-    above: u32,
-    kind: Kind,
-    marks: Marks,
-) -> Template<'b>
-    requires runner { IsRunner runner.now }
-    requires known { AreFoundBy runner.now known.old }
-    requires job { IsJob (sheet_by runner.now) job }
-    requires above { above < length (told_by runner.now).ancestors.states }
-    requires letter { letters.IsLetter (symbols_by runner.now) (predicates_by runner.now)
-        (see_letter kind marks) }
-    ensures known { AreFoundBy runner.now known.new }
-    ensures part { IsPartTemplate (sheet_by runner.now) result }
-    ensures meant { (bodies : List CallFreeBody) (n : c.Node) (k : CallFreeJob)
-        → HasBodies runner.now bodies
-        → IsTaskOf (sheet_by runner.now) (mode_of (sheet_by runner.now).modes job) k →
-        ((m : ℕ) → built_in_at m (see_letter kind marks).kind ≡ built_in_of m n) →
-        IsMeantBy (sheet_by runner.now).named n result
-        ((machine runner.now bodies).body_at k (ancestor (told_by runner.now) above)
-        (see_letter kind marks)) }
+    meant: Option<Template<'b>>,
+    here: &Context<'b>,
+    nesting: u32,
+    output: &mut Output<'b>,
+    known: &mut KnownNodes<'b>,
+) -> Result<(), RunFault>
+    requires ready { IsReadyOn runner.now here.now known.old output.old.work nesting }
+    requires meant { IfSome meant (IsPartTemplate (sheet_by runner.now)) }
+    ensures ready { StaysReady runner.now known.new output.new.work result }
+    ensures outcome { (bodies : List CallFreeBody) (p : CallFreeBody) → HasBodies runner.now bodies
+        → IfSome meant.entry (λ t. IsMeantBy (sheet_by runner.now).named (node here.now) t p)
+        → Answers nesting output.old output.new result
+        (cond (is_some meant.entry) (counted (does runner.now bodies p here.now)) nothing) }
 {
-    match job {
-        Job::Each(number) => Template::Body(runner.rules.each_body(number)),
-        Job::Mode(mode) => {
-            let found = known.rule_for(runner.rules, mode, above, kind, marks);
-            template_of(runner, mode, found)
-        }
+    match meant {
+        None => Ok(()),
+        Some(template) => instantiate(runner, template, here, nesting, output, known),
     }
 }
 
@@ -164,16 +132,11 @@ fn instantiate<'b>(
     here: &Context<'b>,
     nesting: u32,
     output: &mut Output<'b>,
-    known: &mut KnownRules,
+    known: &mut KnownNodes<'b>,
 ) -> Result<(), RunFault>
-    requires runner { IsRunner runner.now }
-    requires here { IsContext runner.now here.now }
+    requires ready { IsReadyOn runner.now here.now known.old output.old.work nesting }
     requires meant { IsPartTemplate (sheet_by runner.now) meant }
-    requires nesting { nesting ≤ 8000 }
-    requires work { output.old.work ≤ 4000000 }
-    requires known { AreFoundBy runner.now known.old }
-    ensures few { OnOk result (output.new.work ≤ 4000000) }
-    ensures known { AreFoundBy runner.now known.new }
+    ensures ready { StaysReady runner.now known.new output.new.work result }
     ensures outcome { (bodies : List CallFreeBody) (p : CallFreeBody) → HasBodies runner.now bodies
         → IsMeantBy (sheet_by runner.now).named (node here.now) meant.entry p
         → Answers nesting output.old output.new result
@@ -195,16 +158,11 @@ fn built_in<'b>(
     here: &Context<'b>,
     nesting: u32,
     output: &mut Output<'b>,
-    known: &mut KnownRules,
+    known: &mut KnownNodes<'b>,
 ) -> Result<(), RunFault>
-    requires runner { IsRunner runner.now }
-    requires here { IsContext runner.now here.now }
+    requires ready { IsReadyOn runner.now here.now known.old output.old.work nesting }
     requires mode { mode < (sheet_by runner.now).modes }
-    requires nesting { nesting ≤ 8000 }
-    requires work { output.old.work ≤ 4000000 }
-    requires known { AreFoundBy runner.now known.old }
-    ensures few { OnOk result (output.new.work ≤ 4000000) }
-    ensures known { AreFoundBy runner.now known.new }
+    ensures ready { StaysReady runner.now known.new output.new.work result }
     ensures outcome { (bodies : List CallFreeBody) → HasBodies runner.now bodies
         → Answers nesting output.old output.new result
         (does runner.now bodies (built_in_of mode (node here.now)) here.now) }
@@ -227,16 +185,11 @@ fn body<'b>(
     here: &Context<'b>,
     nesting: u32,
     output: &mut Output<'b>,
-    known: &mut KnownRules,
+    known: &mut KnownNodes<'b>,
 ) -> Result<(), RunFault>
-    requires runner { IsRunner runner.now }
-    requires here { IsContext runner.now here.now }
+    requires ready { IsReadyOn runner.now here.now known.old output.old.work nesting }
     requires part { IsPart (sheet_by runner.now) (see.body body.now) }
-    requires nesting { nesting ≤ 8000 }
-    requires work { output.old.work ≤ 4000000 }
-    requires known { AreFoundBy runner.now known.old }
-    ensures few { OnOk result (output.new.work ≤ 4000000) }
-    ensures known { AreFoundBy runner.now known.new }
+    ensures ready { StaysReady runner.now known.new output.new.work result }
     ensures outcome { (bodies : List CallFreeBody) (p : CallFreeBody) → HasBodies runner.now bodies
         → Inlines (sheet_by runner.now).named (see.body body.now) p
         → Answers nesting output.old output.new result
@@ -256,16 +209,11 @@ fn instruction<'b>(
     here: &Context<'b>,
     nesting: u32,
     output: &mut Output<'b>,
-    known: &mut KnownRules,
+    known: &mut KnownNodes<'b>,
 ) -> Result<(), RunFault>
-    requires runner { IsRunner runner.now }
-    requires here { IsContext runner.now here.now }
+    requires ready { IsReadyOn runner.now here.now known.old output.old.work nesting }
     requires part { IsPart (sheet_by runner.now) (see.instruction instruction.now no_instruction) }
-    requires nesting { nesting ≤ 8000 }
-    requires work { output.old.work ≤ 4000000 }
-    requires known { AreFoundBy runner.now known.old }
-    ensures few { OnOk result (output.new.work ≤ 4000000) }
-    ensures known { AreFoundBy runner.now known.new }
+    ensures ready { StaysReady runner.now known.new output.new.work result }
     ensures outcome { (bodies : List CallFreeBody) (p : CallFreeBody) → HasBodies runner.now bodies
         → Inlines (sheet_by runner.now).named (see.instruction instruction.now no_instruction) p
         → Answers nesting output.old output.new result
@@ -284,12 +232,12 @@ fn instruction<'b>(
             instantiate(runner, Template::Body(called), here, nesting, output, known)
         }
         Instr::ValueOf(path) => {
-            let first = value(runner, path, here);
+            let first = value(runner, path, here, &mut known.sights);
             output.put(first)
         }
         Instr::ValueOfSelf => output.put(here.string),
         Instr::Choose(branches, last) => {
-            let chosen = chosen_branch(runner, branches, last, here);
+            let chosen = chosen_branch(runner, branches, last, here, &mut known.sights);
             body(runner, chosen, here, nesting, output, known)
         }
         Instr::ForEach(number, path, _) => {
@@ -315,16 +263,11 @@ fn put_element<'b>(
     here: &Context<'b>,
     nesting: u32,
     output: &mut Output<'b>,
-    known: &mut KnownRules,
+    known: &mut KnownNodes<'b>,
 ) -> Result<(), RunFault>
-    requires runner { IsRunner runner.now }
-    requires here { IsContext runner.now here.now }
+    requires ready { IsReadyOn runner.now here.now known.old output.old.work nesting }
     requires part { IsPart (sheet_by runner.now) (see.body inner.now) }
-    requires nesting { nesting ≤ 8000 }
-    requires work { output.old.work ≤ 4000000 }
-    requires known { AreFoundBy runner.now known.old }
-    ensures few { OnOk result (output.new.work ≤ 4000000) }
-    ensures known { AreFoundBy runner.now known.new }
+    ensures ready { StaysReady runner.now known.new output.new.work result }
     ensures outcome { (bodies : List CallFreeBody) (p : CallFreeBody) → HasBodies runner.now bodies
         → Inlines (sheet_by runner.now).named (see.body inner.now) p
         → Answers nesting output.old output.new result
@@ -343,16 +286,11 @@ fn copy<'b>(
     here: &Context<'b>,
     nesting: u32,
     output: &mut Output<'b>,
-    known: &mut KnownRules,
+    known: &mut KnownNodes<'b>,
 ) -> Result<(), RunFault>
-    requires runner { IsRunner runner.now }
-    requires here { IsContext runner.now here.now }
+    requires ready { IsReadyOn runner.now here.now known.old output.old.work nesting }
     requires part { IsPart (sheet_by runner.now) (see.body inner.now) }
-    requires nesting { nesting ≤ 8000 }
-    requires work { output.old.work ≤ 4000000 }
-    requires known { AreFoundBy runner.now known.old }
-    ensures few { OnOk result (output.new.work ≤ 4000000) }
-    ensures known { AreFoundBy runner.now known.new }
+    ensures ready { StaysReady runner.now known.new output.new.work result }
     ensures outcome { (bodies : List CallFreeBody) (p : CallFreeBody) → HasBodies runner.now bodies
         → Inlines (sheet_by runner.now).named (see.body inner.now) p
         → Answers nesting output.old output.new result
@@ -366,18 +304,23 @@ fn copy<'b>(
 }
 
 /// The string-value of the node that a path selects first (XSLT 1.0, 7.6.1).
-fn value<'b>(runner: &Runner<'_, 'b>, path: &Path<'_>, here: &Context<'b>) -> &'b str
-    requires runner { IsRunner runner.now }
-    requires here { IsContext runner.now here.now }
+fn value<'b>(
+    runner: &Runner<'_, 'b>,
+    path: &Path<'_>,
+    here: &Context<'b>,
+    known: &mut KnownSights<'_>,
+) -> &'b str
+    requires here { IsAt runner.now here.now known.old }
     requires path { Contains (looks_of (sheet_by runner.now)) (see.path path.now) }
-    ensures { result.now
+    ensures known { AreSeenBy runner.now known.new }
+    ensures value { result.now
         ≡ value_of_first
         (first_hit_of (looking runner.now) (l.bare (trees here.now.kids.now))
         (looking_from (see.path path.now))) }
 {
     match runner.rules.look_first(path) {
         None => "",
-        Some(look) => first_hit(runner, here.kids, look).unwrap_or(""),
+        Some(look) => first_hit(runner, here.kids, look, known).unwrap_or(""),
     }
 }
 
@@ -387,11 +330,12 @@ fn chosen_branch<'b>(
     branches: &'b [Branch<'b>],
     last: &'b [Instr<'b>],
     here: &Context<'b>,
+    known: &mut KnownSights<'_>,
 ) -> &'b [Instr<'b>]
-    requires runner { IsRunner runner.now }
-    requires here { IsContext runner.now here.now }
+    requires here { IsAt runner.now here.now known.old }
     requires part { ArePartBranches (sheet_by runner.now)
         (see.branches branches.now (otherwise (see.body last.now))) }
+    ensures known { AreSeenBy runner.now known.new }
     ensures part { IsPart (sheet_by runner.now) (see.body result.now) }
     ensures chosen { (x : CallFreeBranches)
         → BranchesInline (sheet_by runner.now).named
@@ -402,7 +346,7 @@ fn chosen_branch<'b>(
         ≡ does_in (machine runner.now bodies) p (node here.now) outs) }
 {
     for branch in branches {
-        if holds(runner, &branch.test, here.kids) {
+        if holds(runner, &branch.test, here.kids, known) {
             return branch.body;
         }
     }
@@ -418,17 +362,12 @@ fn selected<'b>(
     here: &Context<'b>,
     nesting: u32,
     output: &mut Output<'b>,
-    known: &mut KnownRules,
+    known: &mut KnownNodes<'b>,
 ) -> Result<(), RunFault>
-    requires runner { IsRunner runner.now }
-    requires here { IsContext runner.now here.now }
+    requires ready { IsReadyOn runner.now here.now known.old output.old.work nesting }
     requires path { Contains (moves_of (sheet_by runner.now))
         (record { path = see.path path.now; mode = mode_of (sheet_by runner.now).modes job }) }
-    requires nesting { nesting ≤ 8000 }
-    requires work { output.old.work ≤ 4000000 }
-    requires known { AreFoundBy runner.now known.old }
-    ensures few { OnOk result (output.new.work ≤ 4000000) }
-    ensures known { AreFoundBy runner.now known.new }
+    ensures ready { StaysReady runner.now known.new output.new.work result }
     ensures outcome { (bodies : List CallFreeBody) (k : CallFreeJob) → HasBodies runner.now bodies
         → IsTaskOf (sheet_by runner.now) (mode_of (sheet_by runner.now).modes job) k
         → Answers nesting output.old output.new result
@@ -450,17 +389,11 @@ fn apply_to_trees<'b>(
     state: u32,
     nesting: u32,
     output: &mut Output<'b>,
-    known: &mut KnownRules,
+    known: &mut KnownNodes<'b>,
 ) -> Result<(), RunFault>
-    requires runner { IsRunner runner.now }
+    requires ready { IsReadyBelow runner.now above state known.old output.old.work nesting }
     requires nodes { IsLetteredBy runner.now (trees nodes.now) }
-    requires above { above < length (told_by runner.now).ancestors.states }
-    requires state { IsSomeMove (told_by runner.now) state }
-    requires nesting { nesting ≤ 8000 }
-    requires work { output.old.work ≤ 4000000 }
-    requires known { AreFoundBy runner.now known.old }
-    ensures few { OnOk result (output.new.work ≤ 4000000) }
-    ensures known { AreFoundBy runner.now known.new }
+    ensures ready { StaysReady runner.now known.new output.new.work result }
     ensures outcome { (bodies : List CallFreeBody) (g : Going) → HasBodies runner.now bodies
         → IsMoveAt (told_by runner.now) state g → Answers nesting output.old output.new result
         (outputs_on runner.now bodies (l.bare (trees nodes.now)) above g) }
@@ -480,17 +413,11 @@ fn apply_to_tree<'b>(
     state: u32,
     nesting: u32,
     output: &mut Output<'b>,
-    known: &mut KnownRules,
+    known: &mut KnownNodes<'b>,
 ) -> Result<(), RunFault>
-    requires runner { IsRunner runner.now }
+    requires ready { IsReadyBelow runner.now above state known.old output.old.work nesting }
     requires node { IsLetteredBy runner.now (before node.now l.none) }
-    requires above { above < length (told_by runner.now).ancestors.states }
-    requires state { IsSomeMove (told_by runner.now) state }
-    requires nesting { nesting ≤ 8000 }
-    requires work { output.old.work ≤ 4000000 }
-    requires known { AreFoundBy runner.now known.old }
-    ensures few { OnOk result (output.new.work ≤ 4000000) }
-    ensures known { AreFoundBy runner.now known.new }
+    ensures ready { StaysReady runner.now known.new output.new.work result }
     ensures outcome { (bodies : List CallFreeBody) (g : Going) → HasBodies runner.now bodies
         → IsMoveAt (told_by runner.now) state g → Answers nesting output.old output.new result
         (outputs_on runner.now bodies (l.bare (before node.now l.none)) above g) }
@@ -500,14 +427,16 @@ fn apply_to_tree<'b>(
             apply_to_text(runner, text, *marks, above, state, nesting, output, known)
         }
         Lettered::Elem(name, letter, string, kids) => {
+            let kind = Kind::Elem(letter.sym);
+            let visit = known.visit(runner, state, above, kind, letter.marks);
             let here = Context {
                 shape: Shape::Elem(*name),
                 string: *string,
                 kids: *kids,
-                above: runner.rules.anc_step(above, letter.sym, letter.marks),
+                above: visit.next.above,
             };
-            apply_to_element(runner, &here, *letter, above, state, nesting, output, known)?;
-            match runner.rules.sel_step(state, letter.sym, letter.marks) {
+            instantiate_some(runner, visit.template, &here, nesting, output, known)?;
+            match visit.next.state {
                 None => Ok(()),
                 Some(below) => apply_to_trees(
                     runner, kids, here.above, below, nesting, output, known,
@@ -527,76 +456,22 @@ fn apply_to_text<'b>(
     state: u32,
     nesting: u32,
     output: &mut Output<'b>,
-    known: &mut KnownRules,
+    known: &mut KnownNodes<'b>,
 ) -> Result<(), RunFault>
-    requires runner { IsRunner runner.now }
+    requires ready { IsReadyBelow runner.now above state known.old output.old.work nesting }
     requires marks { see_letter Kind.Text marks
         ≡ letters.letter_of (symbols_by runner.now) (predicates_by runner.now) (c.a_text text.now) }
-    requires above { above < length (told_by runner.now).ancestors.states }
-    requires state { IsSomeMove (told_by runner.now) state }
-    requires nesting { nesting ≤ 8000 }
-    requires work { output.old.work ≤ 4000000 }
-    requires known { AreFoundBy runner.now known.old }
-    ensures few { OnOk result (output.new.work ≤ 4000000) }
-    ensures known { AreFoundBy runner.now known.new }
+    ensures ready { StaysReady runner.now known.new output.new.work result }
     ensures outcome { (bodies : List CallFreeBody) (g : Going) → HasBodies runner.now bodies
         → IsMoveAt (told_by runner.now) state g → Answers nesting output.old output.new result
         (outputs_on runner.now bodies (t.text text.now t.none) above g) }
 {
-    if !runner.rules.sel_hits(state, Kind::Text, marks) {
-        return Ok(());
-    }
+    let visit = known.visit(runner, state, above, Kind::Text, marks);
     let here = Context {
         shape: Shape::Text,
         string: text,
         kids: &[],
         above,
     };
-    let job = runner.rules.mode_of(state);
-    let rule = template_for(runner, known, job, above, Kind::Text, marks);
-    instantiate(runner, rule, &here, nesting, output, known)
-}
-
-/// The job of a move on an element, where it selects it.
-#[cycle(bodies)]
-fn apply_to_element<'b>(
-    runner: &Runner<'_, 'b>,
-    here: &Context<'b>,
-    letter: Letter,
-    above: u32,
-    state: u32,
-    nesting: u32,
-    output: &mut Output<'b>,
-    known: &mut KnownRules,
-) -> Result<(), RunFault>
-    requires runner { IsRunner runner.now }
-    requires here { IsContext runner.now here.now }
-    requires element { (n : ExpandedName) × (kids : t.Trees)
-        × (node here.now ≡ c.one (c.an_element n kids))
-        × (see_letter (Kind.Elem letter.sym) letter.marks
-        ≡ letters.letter_of (symbols_by runner.now) (predicates_by runner.now)
-        (c.an_element n kids)) }
-    requires above { above < length (told_by runner.now).ancestors.states }
-    requires state { IsSomeMove (told_by runner.now) state }
-    requires nesting { nesting ≤ 8000 }
-    requires work { output.old.work ≤ 4000000 }
-    requires known { AreFoundBy runner.now known.old }
-    ensures few { OnOk result (output.new.work ≤ 4000000) }
-    ensures known { AreFoundBy runner.now known.new }
-    ensures outcome { (bodies : List CallFreeBody) (g : Going) → HasBodies runner.now bodies
-        → IsMoveAt (told_by runner.now) state g → Answers nesting output.old output.new result
-        (cond
-        ((machine runner.now bodies).move_hits g (see_letter (Kind.Elem letter.sym) letter.marks))
-        (counted
-        (does runner.now bodies
-        ((machine runner.now bodies).body_at g.task (ancestor (told_by runner.now) above)
-        (see_letter (Kind.Elem letter.sym) letter.marks)) here.now)) nothing) }
-{
-    let kind = Kind::Elem(letter.sym);
-    if !runner.rules.sel_hits(state, kind, letter.marks) {
-        return Ok(());
-    }
-    let job = runner.rules.mode_of(state);
-    let rule = template_for(runner, known, job, above, kind, letter.marks);
-    instantiate(runner, rule, here, nesting, output, known)
+    instantiate_some(runner, visit.template, &here, nesting, output, known)
 }

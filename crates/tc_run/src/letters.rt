@@ -7,14 +7,15 @@ ghost use Rattle.tc_model.specs.Machine.{holds_in};
 ghost use Rattle.tc_model.specs.Views as see;
 ghost use Rattle.tc_model.specs.Trees as t;
 ghost use Rattle.tc_run.specs.Lettered as l;
-ghost use Rattle.tc_run.specs.Named.{AreNamed};
 ghost use Rattle.tc_run.specs.Predicates.{AreAllAsked};
 ghost use Rattle.tc_run.specs.Running.{IsRunner, IsLetteredBy, lettered_by, looking, predicates_by};
+ghost use Rattle.tc_run.specs.Sights.{AreLookedAt, AreRemembered, AreSeenBy};
 ghost use Rattle.tc_run.specs.Views.{trees, before};
 
 use crate::known_names::KnownNames;
 use crate::predicates::{Asked, all_asked, is_met};
 use crate::runner::Runner;
+use crate::sights::KnownSights;
 use bumpalo::Bump;
 use bumpalo::collections::{into_bump_slice, into_bump_str};
 use tc_alpha::Sym;
@@ -96,10 +97,21 @@ pub(crate) fn lettered_document<'b>(
     ensures { IfOk result (λ d. trees d.now ≡ lettered_by runner.now (see.trees nodes.now)) }
 {
     let asked = all_asked(arena, runner)?;
-    let on_texts = marks(runner, asked, &[]);
+    let mut sights = KnownSights::new(arena)?;
+    let on_texts = marks(runner, asked, &[], &mut sights);
     let mut names = KnownNames::new(arena)?;
-    let document = with_letters(arena, runner, asked, nodes, text, on_texts, &mut names);
+    let document = with_letters(
+        arena,
+        runner,
+        asked,
+        nodes,
+        text,
+        on_texts,
+        &mut names,
+        &mut sights,
+    );
     drop(names);
+    drop(sights);
     Ok(document?.nodes)
 }
 
@@ -112,14 +124,15 @@ fn with_letters<'b>(
     text: &'b str,
     on_texts: Marks,
     names: &mut KnownNames<'b>,
+    sights: &mut KnownSights<'_>,
 ) -> Result<Below<'b>, NoMemory>
     requires runner { IsRunner runner.now }
     requires text { (rest : List ℕ) × (text.now ≡ joined_texts (see.trees nodes.now) ++ rest) }
     requires on_texts { on_texts.0
         ≡ marks_of (map (λ p. holds_in (looking runner.now) p t.none) (predicates_by runner.now)) }
-    requires names { AreNamed runner.now.alphabet.now names.old }
+    requires known { AreRemembered runner.now names.old sights.old }
     requires asked { AreAllAsked runner.now asked.now }
-    ensures names { AreNamed runner.now.alphabet.now names.new }
+    ensures known { AreRemembered runner.now names.new sights.new }
     ensures nodes { IfOk result
         (λ b. trees b.nodes.now ≡ lettered_by runner.now (see.trees nodes.now)) }
     ensures rest { IfOk result (λ b. text.now ≡ joined_texts (see.trees nodes.now) ++ b.rest.now) }
@@ -133,10 +146,12 @@ fn with_letters<'b>(
                 Lettered::Text(*piece, on_texts)
             }
             Node::Elem(name, kids) => {
-                let below = with_letters(arena, runner, asked, kids, rest, on_texts, names)?;
+                let below = with_letters(
+                    arena, runner, asked, kids, rest, on_texts, names, sights,
+                )?;
                 let string = before_end(rest, below.rest);
                 rest = below.rest;
-                lettered_element(runner, asked, names, name, string, below.nodes)
+                lettered_element(runner, asked, names, sights, name, string, below.nodes)
             }
         };
         found.push(tree)?;
@@ -152,6 +167,7 @@ fn lettered_element<'b>(
     runner: &Runner<'_, '_>,
     asked: &[Asked<'_>],
     names: &mut KnownNames<'b>,
+    sights: &mut KnownSights<'_>,
     name: &Name<'b>,
     string: &'b str,
     kids: &'b [Lettered<'b>],
@@ -159,25 +175,30 @@ fn lettered_element<'b>(
     requires runner { IsRunner runner.now }
     requires kids { IsLetteredBy runner.now (trees kids.now) }
     requires string { string.now ≡ joined_texts (l.bare (trees kids.now)) }
-    requires names { AreNamed runner.now.alphabet.now names.old }
+    requires known { AreRemembered runner.now names.old sights.old }
     requires asked { AreAllAsked runner.now asked.now }
-    ensures names { AreNamed runner.now.alphabet.now names.new }
+    ensures known { AreRemembered runner.now names.new sights.new }
     ensures lettered { (rest : t.Trees) → before result (lettered_by runner.now rest)
         ≡ lettered_by runner.now (t.element (see.name name.now) (l.bare (trees kids.now)) rest) }
 {
     let letter = Letter {
         sym: names.sym_of(runner.alphabet, name),
-        marks: marks(runner, asked, kids),
+        marks: marks(runner, asked, kids, sights),
     };
     Lettered::Elem(*name, letter, string, kids)
 }
 
 /// Which predicates hold on a node of these children.
-pub(crate) fn marks(runner: &Runner<'_, '_>, asked: &[Asked<'_>], kids: &[Lettered<'_>]) -> Marks
-    requires runner { IsRunner runner.now }
-    requires kids { IsLetteredBy runner.now (trees kids.now) }
+pub(crate) fn marks(
+    runner: &Runner<'_, '_>,
+    asked: &[Asked<'_>],
+    kids: &[Lettered<'_>],
+    sights: &mut KnownSights<'_>,
+) -> Marks
+    requires kids { AreLookedAt runner.now (trees kids.now) sights.old }
     requires asked { AreAllAsked runner.now asked.now }
-    ensures { result.0
+    ensures known { AreSeenBy runner.now sights.new }
+    ensures marks { result.0
         ≡ marks_of
         (map (λ p. holds_in (looking runner.now) p (l.bare (trees kids.now)))
         (predicates_by runner.now)) }
@@ -186,7 +207,7 @@ pub(crate) fn marks(runner: &Runner<'_, '_>, asked: &[Asked<'_>], kids: &[Letter
     let mut number = asked.len();
     while number > 0 {
         number -= 1;
-        marks = 2 * marks + u32::from(is_met(runner, asked[number], kids));
+        marks = 2 * marks + u32::from(is_met(runner, asked[number], kids, sights));
     }
     Marks(marks)
 }

@@ -19,6 +19,8 @@ mod looks;
 mod output;
 mod predicates;
 mod runner;
+mod sights;
+mod visits;
 
 use bodies::root;
 use bumpalo::Bump;
@@ -81,6 +83,6 @@ pub fn run<'b>(
     let runner = Runner { rules, alphabet };
     let document = lettered_document(arena, &runner, nodes, text)?;
     let mut output = Output::new(arena);
-    root(&runner, document, text, &mut output)?;
+    root(arena, &runner, document, text, &mut output)?;
     Ok(normalise(arena, &output.nodes)?)
 }

@@ -6,12 +6,14 @@ ghost use Rattle.tc_model.specs.Views as see;
 ghost use Rattle.tc_rules.specs.Parts.{IsPartTest};
 ghost use Rattle.tc_run.specs.Lettered as l;
 ghost use Rattle.tc_run.specs.Predicates.{IsAskedBy, AreAllAsked};
-ghost use Rattle.tc_run.specs.Running.{IsRunner, IsLetteredBy, looking, sheet_by};
+ghost use Rattle.tc_run.specs.Running.{IsRunner, looking, sheet_by};
+ghost use Rattle.tc_run.specs.Sights.{AreLookedAt, AreSeenBy};
 ghost use Rattle.tc_run.specs.Views.{trees};
 
 use crate::letters::Lettered;
 use crate::looks::{first_hit, holds};
 use crate::runner::Runner;
+use crate::sights::KnownSights;
 use bumpalo::Bump;
 use bumpalo::collections::into_bump_slice;
 use tc_base::NoMemory;
@@ -56,15 +58,20 @@ pub(crate) fn all_asked<'b>(
 }
 
 /// Whether what a predicate asks for is so on a node of these children.
-pub(crate) fn is_met(runner: &Runner<'_, '_>, asked: Asked<'_>, kids: &[Lettered<'_>]) -> bool
-    requires runner { IsRunner runner.now }
-    requires kids { IsLetteredBy runner.now (trees kids.now) }
+pub(crate) fn is_met(
+    runner: &Runner<'_, '_>,
+    asked: Asked<'_>,
+    kids: &[Lettered<'_>],
+    known: &mut KnownSights<'_>,
+) -> bool
+    requires kids { AreLookedAt runner.now (trees kids.now) known.old }
     requires asked { (t : s.Test) × IsAskedBy runner.now t asked }
-    ensures { (t : s.Test) → IsAskedBy runner.now t asked.entry → result
+    ensures known { AreSeenBy runner.now known.new }
+    ensures met { (t : s.Test) → IsAskedBy runner.now t asked.entry → result
         ≡ machine.holds_in (looking runner.now) t (l.bare (trees kids.now)) }
 {
     match asked {
-        Asked::Look(look) => first_hit(runner, kids, look).is_some(),
-        Asked::Test(test) => holds(runner, test, kids),
+        Asked::Look(look) => first_hit(runner, kids, look, known).is_some(),
+        Asked::Test(test) => holds(runner, test, kids, known),
     }
 }

@@ -26,15 +26,16 @@ pub returns-in_err-document-clause-cause : goal.returns-in_err-document-clause-c
 returns-in_err-document-clause-cause c =
     refused c.args.alphabet.now c.args.rules.now c.requires.rules (see.before c.args.doc.now none) c.from_residual-in_err-document.result c.from_residual-in_err-document.ensures.1
 
-pub root-requires-clause-nodes : goal.root-requires-clause-nodes
-root-requires-clause-nodes c =
+pub root-requires-clause-document : goal.root-requires-clause-document
+root-requires-clause-document c =
     let r : Runner = record { rules = c.args.rules; alphabet = c.args.alphabet } in
-    document_lettered r (trees c.in_ok-document.document.now) (see.trees c.from_ref-nodes.result.now) c.in_ok-document.ensures
-
-pub root-requires-clause-string : goal.root-requires-clause-string
-root-requires-clause-string c =
-    let r : Runner = record { rules = c.args.rules; alphabet = c.args.alphabet } in
-    c.in_ok-text.ensures ∙ sym (ap joined_texts (document_bare r (trees c.in_ok-document.document.now) (see.trees c.from_ref-nodes.result.now) c.in_ok-document.ensures))
+    let given = trees c.in_ok-document.document.now in
+    let doc = see.trees c.from_ref-nodes.result.now in
+    record {
+      runner = c.requires.rules;
+      nodes = document_lettered r given doc c.in_ok-document.ensures;
+      string = c.in_ok-text.ensures ∙ sym (ap joined_texts (document_bare r given doc c.in_ok-document.ensures));
+    }
 
 pub returns-in_err-root-clause-cause : goal.returns-in_err-root-clause-cause
 returns-in_err-root-clause-cause c =

@@ -1,4 +1,5 @@
-use Rattle.std.proofs.Common.{◌+◌, [], ap, ◌∙◌, sym, subst, refl, drop, get_or, Bor, List, Some, Result, Ok, Err, OnOk, cond, Contains, arith}
+use Rattle.std.proofs.Common.{◌+◌, [], ap, ◌∙◌, sym, subst, refl, drop, get_or, Bor, List, Some, is_some, Result, Ok, Err, OnOk, cond, Contains, arith}
+use Rattle.std.specs.Prelude.{IfSome}
 use Rattle.std.specs.Result.{IsErrAnd}
 use Rattle.tc_model.specs.Chains.{children, an_element, a_text, one}
 use Rattle.tc_model.specs.Machine.{in_mode, in_body, outputs}
@@ -7,7 +8,6 @@ use Rattle.tc_model.specs.Numberings.{moves_of}
 use Rattle.tc_model.specs.Outcomes.{nothing, within, counted, put, put_around, copied}
 use Rattle.tc_model.specs.Views as see
 use Rattle.tc_model.specs.Sheets.{Inlines}
-use Rattle.tc_model.specs.Trees as t
 use Rattle.tc_rules.specs.Asked.{letter}
 use Rattle.tc_rules.specs.Views.{mode_of}
 use Rattle.tc_rules.specs.RulesView.{ancestor}
@@ -17,15 +17,15 @@ use Rattle.tc_run.specs.Running.{told_by, sheet_by, symbols_by, predicates_by, m
 use Rattle.tc_run.specs.Views.{before, trees, node}
 use Rattle.tc_run.specs.Spent.{Spends, Answers}
 use Rattle.tc_rules.specs.Tasks.{of_mode, of_each, going_from}
-use Rattle.tc_run.specs.Tasks.{IsPartTemplate, built_in, does, outputs_on}
+use Rattle.tc_run.specs.Tasks.{IsMeantBy, IsPartTemplate, built_in, does, outputs_on}
 use Rattle.tc_run.specs.declared.letters.Lettered.{Lettered}
 use Rattle.tc_run.proofs.Alone.{text_alone, element_alone, copy_alone, call_alone, apply_alone, value_alone, self_alone, choose_alone, each_alone}
 use Rattle.tc_run.proofs.BuiltIn.{built_in_children, one_deep, value_same, copy_root, copy_elem}
-use Rattle.tc_rules.proofs.Counts.{some_move_low, some_move_counted}
 use Rattle.tc_rules.proofs.NothingBelow.{outputs_none}
 use Rattle.tc_run.proofs.Ends.{no_instruction_left, body_end, left_around}
 use Rattle.tc_run.proofs.Handing.{handed, open_deep, counted_deep, counted_long, around_long, counted_within, instructed}
-use Rattle.tc_run.proofs.Hitting.{is_letter, task_is, hit_is, first_going, move_below, going_below, text_missed, text_met, outs_next, missed, met, element_built_in, no_tree_left, spends_none}
+use Rattle.tc_run.proofs.Hitting.{is_letter, first_going, move_below, going_below, text_visited, outs_next, element_built_in, no_tree_left, spends_none}
+use Rattle.tc_run.proofs.Visiting.{template_seen, leads_some, leads_none, some_seen, none_seen}
 use Rattle.tc_run.proofs.Instructions.{text_seen, self_seen, elem_seen, copy_seen, apply_seen, call_seen, value_of_seen, choose_seen, for_each_seen, elem_part, copy_part, apply_part, call_part, choose_part, for_each_part}
 use Rattle.tc_run.proofs.Loops.{body_begin, body_further, body_fail, hits_begin, hits_further, hits_end, hits_fail}
 use Rattle.tc_run.proofs.Templates.{no_body, meant_body, meant_built_in, named_got, named_low, named_part_at}
@@ -55,7 +55,7 @@ put_element-returns-clause-outcome t c = λ bodies p hb u.
 
 pub body-loop-one-init : goal.body-loop-one-init
 body-loop-one-init t c =
-    ((c.requires.work, c.requires.known), c.requires.part, λ bodies p hb u. body_begin c.args.runner.now bodies c.args.here.now c.args.nesting p c.args.output.now (see.body c.args.body.now) (spends_nothing c.args.nesting c.args.output.now c.requires.work c.requires.nesting) u)
+    ((c.requires.ready.work, c.requires.ready.known), c.requires.part, λ bodies p hb u. body_begin c.args.runner.now bodies c.args.here.now c.args.nesting p c.args.output.now (see.body c.args.body.now) (spends_nothing c.args.nesting c.args.output.now c.requires.ready.work c.requires.ready.nesting) u)
 
 pub body-loop-one-preserved : goal.body-loop-one-preserved
 body-loop-one-preserved t c =
@@ -63,7 +63,7 @@ body-loop-one-preserved t c =
     let is = c.args.body.now in
     let k = c.loop-one.one-index in
     let i = c.one-item.result in (
-      (c.in_ok-instruction.ensures.few, c.in_ok-instruction.ensures.known),
+      (c.in_ok-instruction.ensures.ready.few, c.in_ok-instruction.ensures.ready.known),
       (part_at (sheet_by r) is k i c.loop-one-test.true c.one-item.is c.loop-one.invariant.1).1,
       λ bodies p hb u.
           body_further r bodies c.args.here.now c.args.nesting p i (see.body (drop (k + 1) is))
@@ -95,7 +95,7 @@ pub built_in-selected-requires : goal.built_in-selected-requires
 built_in-selected-requires t c =
     let r = c.args.runner.now in (
       omega (arith, c.decreases, deeper_less c.args.nesting c.in_ok-nesting.nesting (bare (trees c.args.here.now.kids.now)) 3 1 c.in_ok-nesting.ensures.ok (omega arith)),
-      (c.requires.runner, (c.requires.here, (subst (λ p. Contains (moves_of (sheet_by r)) (record { path = p; mode = c.args.mode })) (sym c.all_children-path.ensures) (children_move (sheet_by r) c.args.mode c.requires.mode), (c.in_ok-nesting.ensures.ok.1, (c.requires.work, c.requires.known))))),
+      (record { runner = c.requires.ready.runner; here = c.requires.ready.here; known = c.requires.ready.known; work = c.requires.ready.work; nesting = c.in_ok-nesting.ensures.ok.1 }, subst (λ p. Contains (moves_of (sheet_by r)) (record { path = p; mode = c.args.mode })) (sym c.all_children-path.ensures) (children_move (sheet_by r) c.args.mode c.requires.mode)),
     )
 
 pub built_in-returns-in_default : goal.built_in-returns-in_default
@@ -106,8 +106,7 @@ built_in-returns-in_default t c =
     let x = c.args.output.now in
     let y = c.selected.new.output in
     record {
-      few = c.selected.ensures.few;
-      known = c.selected.ensures.known;
+      ready = c.selected.ensures.ready;
       outcome = λ bodies hb.
           instructed c.args.nesting n x y c.selected.result (outputs_on r bodies (children (node h)) h.above (going_from (in_mode c.args.mode) all_children)) (does r bodies (built_in c.args.mode (node h)) h)
           c.in_ok-nesting.ensures.ok (built_in_children r bodies c.args.mode h c.in_default.not-Text)
@@ -125,48 +124,9 @@ copy-returns-in-Elem-clause-outcome t c = λ bodies p hb u.
     let h = c.args.here.now in
     subst (Answers c.args.nesting c.args.output.now c.put_element.new.output c.put_element.result) (sym (copy_elem h c.in-Elem.name (does c.args.runner.now bodies p h) c.in-Elem.is)) (c.put_element.ensures.outcome bodies p hb u)
 
-pub apply_to_element-sel_hits-requires : goal.apply_to_element-sel_hits-requires
-apply_to_element-sel_hits-requires t c = some_move_counted (told_by c.args.runner.now) c.args.state c.requires.state
-
-pub apply_to_element-returns-then-not-sel_hits-clause-outcome : goal.apply_to_element-returns-then-not-sel_hits-clause-outcome
-apply_to_element-returns-then-not-sel_hits-clause-outcome t c = λ bodies g hb at.
-    let r = c.args.runner.now in
-    let x = letter (kinds.Elem c.args.letter.sym) c.args.letter.marks in
-    let (n, kids, e, f) = c.requires.element in
-    let hit = hit_is r c.args.state g x c.sel_hits.result at c.requires.runner (is_letter r x (an_element n kids) f) c.sel_hits.ensures bodies in
-    let o = counted (does r bodies ((machine r bodies).body_at g.task (ancestor (told_by r) c.args.above) x) c.args.here.now) in
-    spends_none c.args.nesting c.args.output.now (cond ((machine r bodies).move_hits g x) o nothing) (missed ((machine r bodies).move_hits g x) o (sym hit ∙ c.if-not-sel_hits.true)) c.requires.work c.requires.nesting
-
-pub apply_to_element-mode_of-job-requires : goal.apply_to_element-mode_of-job-requires
-apply_to_element-mode_of-job-requires t c = some_move_low (told_by c.args.runner.now) c.args.state c.requires.state
-
-pub apply_to_element-template_for-rule-requires-clause-job : goal.apply_to_element-template_for-rule-requires-clause-job
-apply_to_element-template_for-rule-requires-clause-job t c =
-    let s = c.requires.state in
-    c.mode_of-job.ensures.job (symbols_by c.args.runner.now) (record { path = s.path; mode = Some s.mode }) s.state c.requires.runner s.at
-
-pub apply_to_element-template_for-rule-requires-clause-letter : goal.apply_to_element-template_for-rule-requires-clause-letter
-apply_to_element-template_for-rule-requires-clause-letter t c =
-    let (n, kids, e, f) = c.requires.element in
-    is_letter c.args.runner.now (letter (kinds.Elem c.args.letter.sym) c.args.letter.marks) (an_element n kids) f
-
-pub apply_to_element-returns-clause-outcome : goal.apply_to_element-returns-clause-outcome
-apply_to_element-returns-clause-outcome t c = λ bodies g hb at.
-    let r = c.args.runner.now in
-    let h = c.args.here.now in
-    let x = letter (kinds.Elem c.args.letter.sym) c.args.letter.marks in
-    let (n, kids, e, f) = c.requires.element in
-    let hit = hit_is r c.args.state g x c.sel_hits.result at c.requires.runner (is_letter r x (an_element n kids) f) c.sel_hits.ensures bodies in
-    let p = (machine r bodies).body_at g.task (ancestor (told_by r) c.args.above) x in
-    let o = counted (does r bodies p h) in
-    let task = task_is r c.args.state g c.mode_of-job.result at c.mode_of-job.ensures.mode c.requires.runner in
-    let meant = c.template_for-rule.ensures.meant bodies (node h) g.task hb task (λ i. element_built_in h n kids c.args.letter.sym.0 e i) in
-    subst (Answers c.args.nesting c.args.output.now c.instantiate.new.output c.instantiate.result) (sym (met ((machine r bodies).move_hits g x) o (sym hit ∙ c.if-not-sel_hits.false)))
-    (c.instantiate.ensures.outcome bodies p hb meant)
-
 pub apply_to_trees-loop-node-init : goal.apply_to_trees-loop-node-init
 apply_to_trees-loop-node-init t c =
-    ((c.requires.work, c.requires.known), c.requires.nodes, λ bodies g hb at. hits_begin c.args.runner.now bodies c.args.above c.args.nesting g (bare (trees c.args.nodes.now)) c.args.output.now (spends_nothing c.args.nesting c.args.output.now c.requires.work c.requires.nesting))
+    ((c.requires.ready.work, c.requires.ready.known), c.requires.nodes, λ bodies g hb at. hits_begin c.args.runner.now bodies c.args.above c.args.nesting g (bare (trees c.args.nodes.now)) c.args.output.now (spends_nothing c.args.nesting c.args.output.now c.requires.ready.work c.requires.ready.nesting))
 
 pub apply_to_trees-apply_to_tree-requires : goal.apply_to_trees-apply_to_tree-requires
 apply_to_trees-apply_to_tree-requires t c =
@@ -174,7 +134,7 @@ apply_to_trees-apply_to_tree-requires t c =
     let k = c.loop-node.node-index in
     let x = c.node-item.result in (
       omega (arith, c.decreases, tree_less c.args.nesting ns k x c.loop-node-test.true c.node-item.is),
-      (c.requires.runner, ((apart_at c.args.runner.now ns k x c.loop-node-test.true c.node-item.is c.loop-node.invariant.1).0, (c.requires.above, (c.requires.state, (c.requires.nesting, (c.loop-node.invariant.0.0, c.loop-node.invariant.0.1)))))),
+      (record { runner = c.requires.ready.runner; above = c.requires.ready.above; state = c.requires.ready.state; known = c.loop-node.invariant.0.1; work = c.loop-node.invariant.0.0; nesting = c.requires.ready.nesting }, (apart_at c.args.runner.now ns k x c.loop-node-test.true c.node-item.is c.loop-node.invariant.1).0),
     )
 
 pub apply_to_trees-loop-node-preserved : goal.apply_to_trees-loop-node-preserved
@@ -183,7 +143,7 @@ apply_to_trees-loop-node-preserved t c =
     let ns = c.args.nodes.now in
     let k = c.loop-node.node-index in
     let x = c.node-item.result in (
-      (c.in_ok-apply_to_tree.ensures.few, c.in_ok-apply_to_tree.ensures.known),
+      (c.in_ok-apply_to_tree.ensures.ready.few, c.in_ok-apply_to_tree.ensures.ready.known),
       (apart_at r ns k x c.loop-node-test.true c.node-item.is c.loop-node.invariant.1).1,
       λ bodies g hb at.
           hits_further r bodies c.args.above c.args.nesting g (bare (trees ns)) (c.loop-node.invariant.2 bodies g hb at) (c.in_ok-apply_to_tree.ensures.outcome bodies g hb at)
@@ -241,13 +201,13 @@ instruction-returns-in_err-nesting-clause-outcome t c = λ bodies p hb u.
 pub instruction-put_element-requires : goal.instruction-put_element-requires
 instruction-put_element-requires t c = (
   omega (arith, c.decreases, deeper_less c.args.nesting c.in_ok-nesting.nesting (bare (trees c.args.here.now.kids.now)) 8 6 c.in_ok-nesting.ensures.ok (omega arith)),
-  (c.requires.runner, (c.requires.here, (elem_part (sheet_by c.args.runner.now) c.args.instruction.now c.in-Elem.name c.in-Elem.inner c.in-Elem.is c.requires.part, (c.in_ok-nesting.ensures.ok.1, (c.requires.work, c.requires.known))))),
+  (record { runner = c.requires.ready.runner; here = c.requires.ready.here; known = c.requires.ready.known; work = c.requires.ready.work; nesting = c.in_ok-nesting.ensures.ok.1 }, elem_part (sheet_by c.args.runner.now) c.args.instruction.now c.in-Elem.name c.in-Elem.inner c.in-Elem.is c.requires.part),
 )
 
 pub instruction-copy-requires : goal.instruction-copy-requires
 instruction-copy-requires t c = (
   omega (arith, c.decreases, deeper_less c.args.nesting c.in_ok-nesting.nesting (bare (trees c.args.here.now.kids.now)) 9 6 c.in_ok-nesting.ensures.ok (omega arith)),
-  (c.requires.runner, (c.requires.here, (copy_part (sheet_by c.args.runner.now) c.args.instruction.now c.in-Copy.inner c.in-Copy.is c.requires.part, (c.in_ok-nesting.ensures.ok.1, (c.requires.work, c.requires.known))))),
+  (record { runner = c.requires.ready.runner; here = c.requires.ready.here; known = c.requires.ready.known; work = c.requires.ready.work; nesting = c.in_ok-nesting.ensures.ok.1 }, copy_part (sheet_by c.args.runner.now) c.args.instruction.now c.in-Copy.inner c.in-Copy.is c.requires.part),
 )
 
 pub instruction-bounds-sheet-number : goal.instruction-bounds-sheet-number
@@ -260,7 +220,7 @@ instruction-instantiate-requires t c =
     let r = c.args.runner.now in
     let low = call_part (sheet_by r) c.args.instruction.now c.in-Call.number c.in-Call.is c.requires.part in (
       omega (arith, c.decreases, deeper_less c.args.nesting c.in_ok-nesting.nesting (bare (trees c.args.here.now.kids.now)) 1 6 c.in_ok-nesting.ensures.ok (omega arith)),
-      (c.requires.runner, (c.requires.here, (named_part_at r c.requires.runner c.in-Call.number (get_or c.sheet.result.now.named.now c.in-Call.number no_body) (named_got (sheet_by r) c.sheet.result.now c.in-Call.number no_body c.sheet.ensures low), (c.in_ok-nesting.ensures.ok.1, (c.requires.work, c.requires.known))))),
+      (record { runner = c.requires.ready.runner; here = c.requires.ready.here; known = c.requires.ready.known; work = c.requires.ready.work; nesting = c.in_ok-nesting.ensures.ok.1 }, named_part_at r c.requires.ready.runner c.in-Call.number (get_or c.sheet.result.now.named.now c.in-Call.number no_body) (named_got (sheet_by r) c.sheet.result.now c.in-Call.number no_body c.sheet.ensures low)),
     )
 
 pub instruction-chosen_branch-chosen-requires-clause-part : goal.instruction-chosen_branch-chosen-requires-clause-part
@@ -324,7 +284,7 @@ instruction-returns-in-ValueOf-clause-outcome t c = λ bodies p hb u.
     let s = c.value-first.result.now in
     let does_it = value_alone r bodies h named (subst (λ b. Inlines named b p) (value_of_seen c.args.instruction.now c.in-ValueOf.path c.in-ValueOf.is) u) in
     instructed c.args.nesting n c.args.output.now c.put-in-ValueOf.new.self c.put-in-ValueOf.result (put s) (does r bodies p h) c.in_ok-nesting.ensures.ok
-    (does_it ∙ ap within (value_same r bodies h named (see.path c.in-ValueOf.path) s c.requires.here.children_are c.value-first.ensures)) (c.put-in-ValueOf.ensures.outcome n c.in_ok-nesting.ensures.ok.1)
+    (does_it ∙ ap within (value_same r bodies h named (see.path c.in-ValueOf.path) s c.requires.ready.here.children_are c.value-first.ensures.value)) (c.put-in-ValueOf.ensures.outcome n c.in_ok-nesting.ensures.ok.1)
 
 pub instruction-returns-in-ValueOfSelf-clause-outcome : goal.instruction-returns-in-ValueOfSelf-clause-outcome
 instruction-returns-in-ValueOfSelf-clause-outcome t c = λ bodies p hb u.
@@ -334,7 +294,7 @@ instruction-returns-in-ValueOfSelf-clause-outcome t c = λ bodies p hb u.
     let named = (sheet_by r).named in
     let does_it = self_alone r bodies h named (subst (λ b. Inlines named b p) (self_seen c.args.instruction.now c.in-ValueOfSelf.is) u) in
     instructed c.args.nesting n c.args.output.now c.put-in-ValueOfSelf.new.self c.put-in-ValueOfSelf.result (put h.string.now) (does r bodies p h) c.in_ok-nesting.ensures.ok
-    (does_it ∙ ap (λ s. within (put s)) (sym c.requires.here.string)) (c.put-in-ValueOfSelf.ensures.outcome n c.in_ok-nesting.ensures.ok.1)
+    (does_it ∙ ap (λ s. within (put s)) (sym c.requires.ready.here.string)) (c.put-in-ValueOfSelf.ensures.outcome n c.in_ok-nesting.ensures.ok.1)
 
 pub instruction-returns-in-Choose-clause-outcome : goal.instruction-returns-in-Choose-clause-outcome
 instruction-returns-in-Choose-clause-outcome t c = λ bodies p hb u.
@@ -366,7 +326,7 @@ selected-returns-in-None-clause-outcome t c = λ bodies k hb task.
     let h = c.args.here.now in
     let p = see.path c.args.path.now in
     spends_none c.args.nesting c.args.output.now (outputs_on r bodies (children (node h)) h.above (going_from k p))
-    (none_selected r bodies (children (node h)) h.above k p (c.in-None.ensures (symbols_by r) c.requires.runner)) c.requires.work c.requires.nesting
+    (none_selected r bodies (children (node h)) h.above k p (c.in-None.ensures (symbols_by r) c.requires.ready.runner)) c.requires.ready.work c.requires.ready.nesting
 
 pub selected-returns-in-Some-clause-outcome : goal.selected-returns-in-Some-clause-outcome
 selected-returns-in-Some-clause-outcome t c = λ bodies k hb task.
@@ -374,91 +334,156 @@ selected-returns-in-Some-clause-outcome t c = λ bodies k hb task.
     let h = c.args.here.now in
     let p = see.path c.args.path.now in
     let mode = mode_of (sheet_by r).modes c.args.job in
-    let going = first_going r c.in-Some.state p mode k (c.in-Some.ensures (symbols_by r) c.requires.runner) task in
-    subst (λ w. Answers c.args.nesting c.args.output.now c.apply_to_trees.new.output c.apply_to_trees.result (outputs_on r bodies w h.above (going_from k p))) c.requires.here.children_are
+    let going = first_going r c.in-Some.state p mode k (c.in-Some.ensures (symbols_by r) c.requires.ready.runner) task in
+    subst (λ w. Answers c.args.nesting c.args.output.now c.apply_to_trees.new.output c.apply_to_trees.result (outputs_on r bodies w h.above (going_from k p))) c.requires.ready.here.children_are
     (c.apply_to_trees.ensures.outcome bodies (going_from k p) hb going)
 
-pub apply_to_text-sel_hits-requires : goal.apply_to_text-sel_hits-requires
-apply_to_text-sel_hits-requires t c = some_move_counted (told_by c.args.runner.now) c.args.state c.requires.1.1.1.1.1.0
+pub copy-body-requires : goal.copy-body-requires
+copy-body-requires t c = (omega (arith, c.decreases), (c.requires.ready, c.requires.part))
 
-pub apply_to_text-returns-then-not-sel_hits-clause-outcome : goal.apply_to_text-returns-then-not-sel_hits-clause-outcome
-apply_to_text-returns-then-not-sel_hits-clause-outcome w c = λ bodies g hb at.
+pub copy-put_element-requires : goal.copy-put_element-requires
+copy-put_element-requires t c = (omega (arith, c.decreases), (c.requires.ready, c.requires.part))
+
+pub put_element-body-requires : goal.put_element-body-requires
+put_element-body-requires t c = (omega (arith, c.decreases), (record { runner = c.requires.ready.runner; here = c.requires.ready.here; known = c.requires.ready.known; work = c.in_ok-before.ensures.work.1; nesting = c.requires.ready.nesting }, c.requires.part))
+
+pub body-instruction-requires : goal.body-instruction-requires
+body-instruction-requires t c =
     let r = c.args.runner.now in
-    let s = c.args.text.now in
-    let x = letter kinds.Text c.args.marks in
-    let hit = hit_is r c.args.state g x c.sel_hits.result at c.requires.1.1.0 (is_letter r x (a_text s) c.requires.1.1.1.0) c.sel_hits.ensures bodies in
-    spends_none c.args.nesting c.args.output.now (outputs_on r bodies (t.text s t.none) c.args.above g)
-    (text_missed r bodies c.args.above g s x c.sel_hits.result c.requires.1.1.1.0 hit c.if-not-sel_hits.true) c.requires.1.1.1.1.1.1.1.0 c.requires.1.1.1.1.1.1.0
+    let part = part_at (sheet_by r) c.args.body.now c.loop-one.one-index c.one-item.result c.loop-one-test.true c.one-item.is c.loop-one.invariant.1 in
+    (omega (arith, c.decreases), (record { runner = c.requires.ready.runner; here = c.requires.ready.here; known = c.loop-one.invariant.0.1; work = c.loop-one.invariant.0.0; nesting = c.requires.ready.nesting }, part.0))
 
-pub apply_to_text-mode_of-job-requires : goal.apply_to_text-mode_of-job-requires
-apply_to_text-mode_of-job-requires t c = some_move_low (told_by c.args.runner.now) c.args.state c.requires.1.1.1.1.1.0
+pub instantiate-body-requires : goal.instantiate-body-requires
+instantiate-body-requires t c = (
+  omega (arith, c.decreases, deeper_less c.args.nesting c.in_ok-nesting.nesting (bare (trees c.args.here.now.kids.now)) 7 1 c.in_ok-nesting.ensures.ok (omega arith)),
+  (record { runner = c.requires.ready.runner; here = c.requires.ready.here; known = c.requires.ready.known; work = c.in_ok-count.ensures.ok.1; nesting = c.in_ok-nesting.ensures.ok.1 }, subst (IsPartTemplate (sheet_by c.args.runner.now)) c.in-Body.is c.requires.meant),
+)
 
-pub apply_to_text-template_for-rule-requires-clause-job : goal.apply_to_text-template_for-rule-requires-clause-job
-apply_to_text-template_for-rule-requires-clause-job t c =
-    let s = c.requires.1.1.1.1.1.0 in
-    c.mode_of-job.ensures.job (symbols_by c.args.runner.now) (record { path = s.path; mode = Some s.mode }) s.state c.requires.1.1.0 s.at
+pub instantiate-built_in-requires : goal.instantiate-built_in-requires
+instantiate-built_in-requires t c = (
+  omega (arith, c.decreases, deeper_less c.args.nesting c.in_ok-nesting.nesting (bare (trees c.args.here.now.kids.now)) 1 1 c.in_ok-nesting.ensures.ok (omega arith)),
+  (record { runner = c.requires.ready.runner; here = c.requires.ready.here; known = c.requires.ready.known; work = c.in_ok-count.ensures.ok.1; nesting = c.in_ok-nesting.ensures.ok.1 }, subst (IsPartTemplate (sheet_by c.args.runner.now)) c.in-BuiltIn.is c.requires.meant),
+)
 
-pub apply_to_text-template_for-rule-requires-clause-letter : goal.apply_to_text-template_for-rule-requires-clause-letter
-apply_to_text-template_for-rule-requires-clause-letter t c = is_letter c.args.runner.now (letter kinds.Text c.args.marks) (a_text c.args.text.now) c.requires.1.1.1.0
+pub instruction-selected-requires : goal.instruction-selected-requires
+instruction-selected-requires t c = (
+  omega (arith, c.decreases, deeper_less c.args.nesting c.in_ok-nesting.nesting (bare (trees c.args.here.now.kids.now)) 3 6 c.in_ok-nesting.ensures.ok (omega arith)),
+  (record { runner = c.requires.ready.runner; here = c.requires.ready.here; known = c.requires.ready.known; work = c.requires.ready.work; nesting = c.in_ok-nesting.ensures.ok.1 }, (apply_part (sheet_by c.args.runner.now) c.args.instruction.now c.in-Apply.path c.in-Apply.mode c.in-Apply.is c.requires.part).0),
+)
+
+pub instruction-body-requires : goal.instruction-body-requires
+instruction-body-requires t c = (
+  omega (arith, c.decreases, deeper_less c.args.nesting c.in_ok-nesting.nesting (bare (trees c.args.here.now.kids.now)) 7 6 c.in_ok-nesting.ensures.ok (omega arith)),
+  (record { runner = c.requires.ready.runner; here = c.requires.ready.here; known = record { found = c.requires.ready.known.found; sights = c.chosen_branch-chosen.ensures.known }; work = c.requires.ready.work; nesting = c.in_ok-nesting.ensures.ok.1 }, c.chosen_branch-chosen.ensures.part),
+)
+
+pub instruction-selected-requires-in-ForEach : goal.instruction-selected-requires-in-ForEach
+instruction-selected-requires-in-ForEach t c = (
+  omega (arith, c.decreases, deeper_less c.args.nesting c.in_ok-nesting.nesting (bare (trees c.args.here.now.kids.now)) 3 6 c.in_ok-nesting.ensures.ok (omega arith)),
+  (record { runner = c.requires.ready.runner; here = c.requires.ready.here; known = c.requires.ready.known; work = c.requires.ready.work; nesting = c.in_ok-nesting.ensures.ok.1 }, (for_each_part (sheet_by c.args.runner.now) c.args.instruction.now c.in-ForEach.number c.in-ForEach.path c.in-ForEach.field-2 c.in-ForEach.is c.requires.part).0),
+)
+
+pub instantiate_some-returns-in-None-clause-outcome : goal.instantiate_some-returns-in-None-clause-outcome
+instantiate_some-returns-in-None-clause-outcome t c = λ bodies p hb m.
+    let o = counted (does c.args.runner.now bodies p c.args.here.now) in
+    spends_none c.args.nesting c.args.output.now (cond (is_some c.args.meant) o nothing) (none_seen c.args.meant o c.in-None.is) c.requires.ready.work c.requires.ready.nesting
+
+pub instantiate_some-returns-in-Some-clause-outcome : goal.instantiate_some-returns-in-Some-clause-outcome
+instantiate_some-returns-in-Some-clause-outcome t c = λ bodies p hb m.
+    let r = c.args.runner.now in
+    let h = c.args.here.now in
+    let o = counted (does r bodies p h) in
+    subst (Answers c.args.nesting c.args.output.now c.instantiate.new.output c.instantiate.result) (sym (some_seen c.args.meant c.in-Some.template o c.in-Some.is))
+    (c.instantiate.ensures.outcome bodies p hb (subst (λ z. IfSome z (λ w. IsMeantBy (sheet_by r).named (node h) w p)) c.in-Some.is m))
+
+pub apply_to_text-visit-visit-requires-clause-met : goal.apply_to_text-visit-visit-requires-clause-met
+apply_to_text-visit-visit-requires-clause-met t c =
+    let r = c.args.runner.now in
+    record { runner = c.requires.1.1.0.runner; above = c.requires.1.1.0.above; letter = is_letter r (letter kinds.Text c.args.marks) (a_text c.args.text.now) c.requires.1.1.1 }
 
 pub apply_to_text-returns-clause-outcome : goal.apply_to_text-returns-clause-outcome
 apply_to_text-returns-clause-outcome w c = λ bodies g hb at.
     let r = c.args.runner.now in
     let s = c.args.text in
     let x = letter kinds.Text c.args.marks in
-    let hit = hit_is r c.args.state g x c.sel_hits.result at c.requires.1.1.0 (is_letter r x (a_text s.now) c.requires.1.1.1.0) c.sel_hits.ensures bodies in
+    let v = c.visit-visit.ensures.visit.template in
     let p = (machine r bodies).body_at g.task (ancestor (told_by r) c.args.above) x in
-    let task = task_is r c.args.state g c.mode_of-job.result at c.mode_of-job.ensures.mode c.requires.1.1.0 in
-    let meant = c.template_for-rule.ensures.meant bodies (one (a_text s.now)) g.task hb task (λ i. refl) in
     let kids : Bor (List Lettered) = record { ref_ptr = (0, 0); now = [] } in
-    subst (Answers c.args.nesting c.args.output.now c.instantiate.new.output c.instantiate.result)
-    (sym (text_met r bodies c.args.above g s kids x c.sel_hits.result c.requires.1.1.1.0 hit c.if-not-sel_hits.false))
-    (c.instantiate.ensures.outcome bodies p hb meant)
+    subst (Answers c.args.nesting c.args.output.now c.instantiate_some.new.output c.instantiate_some.result)
+    (sym (text_visited r bodies c.args.above g s kids x (is_some c.visit-visit.result.template) c.requires.1.1.1 (v.hit bodies g at)))
+    (c.instantiate_some.ensures.outcome bodies p hb (v.meant bodies g (one (a_text s.now)) hb at (λ i. refl)))
 
-pub apply_to_tree-apply_to_element-requires : goal.apply_to_tree-apply_to_element-requires
-apply_to_tree-apply_to_element-requires t c =
+pub apply_to_tree-visit-visit-requires-clause-met : goal.apply_to_tree-visit-visit-requires-clause-met
+apply_to_tree-visit-visit-requires-clause-met t c =
     let r = c.args.runner.now in
-    let x = letter (kinds.Elem c.in-Elem.letter.sym) c.in-Elem.letter.marks in
-    let kids = bare (trees c.in-Elem.kids.now) in
     let a = element_at r c.args.node.now c.in-Elem.name c.in-Elem.letter c.in-Elem.string c.in-Elem.kids none c.requires.node c.in-Elem.is in
-    let d = c.anc_step.ensures (symbols_by r) c.requires.runner (is_letter r x (an_element (see.name c.in-Elem.name) kids) a.letter_is) in (
+    record {
+      runner = c.requires.ready.runner;
+      above = c.requires.ready.above;
+      letter = is_letter r (letter (kinds.Elem c.in-Elem.letter.sym) c.in-Elem.letter.marks) (an_element (see.name c.in-Elem.name) (bare (trees c.in-Elem.kids.now))) a.letter_is;
+    }
+
+pub apply_to_tree-instantiate_some-requires : goal.apply_to_tree-instantiate_some-requires
+apply_to_tree-instantiate_some-requires t c =
+    let r = c.args.runner.now in
+    let a = element_at r c.args.node.now c.in-Elem.name c.in-Elem.letter c.in-Elem.string c.in-Elem.kids none c.requires.node c.in-Elem.is in
+    let d = c.visit-visit.ensures.visit.next.above in (
       omega (arith, c.decreases, below_less c.args.nesting c.args.node.now c.in-Elem.name c.in-Elem.letter c.in-Elem.string c.in-Elem.kids 4 c.in-Elem.is (omega arith)),
-      (c.requires.runner, (is_here_elem r c.in-Elem.name c.in-Elem.letter c.in-Elem.string c.in-Elem.kids none c.anc_step.result a (down_low r c.anc_step.result _ d), ((see.name c.in-Elem.name, kids, refl, a.letter_is), (c.requires.above, (c.requires.state, (c.requires.nesting, (c.requires.work, c.requires.known))))))),
+      (
+        record {
+          runner = c.requires.ready.runner;
+          here = is_here_elem r c.in-Elem.name c.in-Elem.letter c.in-Elem.string c.in-Elem.kids none c.visit-visit.result.next.above a (down_low r c.visit-visit.result.next.above _ d);
+          known = c.visit-visit.ensures.known;
+          work = c.requires.ready.work;
+          nesting = c.requires.ready.nesting;
+        },
+        c.visit-visit.ensures.visit.template.part,
+      ),
     )
 
-pub apply_to_tree-returns-in_err-apply_to_element-in-Elem-clause-outcome : goal.apply_to_tree-returns-in_err-apply_to_element-in-Elem-clause-outcome
-apply_to_tree-returns-in_err-apply_to_element-in-Elem-clause-outcome t c = λ bodies g hb at.
+pub apply_to_tree-returns-in_err-instantiate_some-in-Elem-clause-outcome : goal.apply_to_tree-returns-in_err-instantiate_some-in-Elem-clause-outcome
+apply_to_tree-returns-in_err-instantiate_some-in-Elem-clause-outcome t c = λ bodies g hb at.
     let r = c.args.runner.now in
     let n = c.args.nesting in
-    let e = c.in_err-apply_to_element-in-Elem.field-0.0 in
+    let e = c.in_err-instantiate_some-in-Elem.field-0.0 in
     let s = c.in-Elem.string in
     let kids = c.in-Elem.kids in
     let name = c.in-Elem.name in
     let y = c.in-Elem.letter in
     let above = c.args.above in
     let x = letter (kinds.Elem y.sym) y.marks in
-    let a = element_at r c.args.node.now name y s kids none c.requires.node c.in-Elem.is in
-    let d = c.anc_step.ensures (symbols_by r) c.requires.runner (is_letter r x (an_element (see.name name) (bare (trees kids.now))) a.letter_is) in
-    let h = here_elem name s kids c.anc_step.result in
-    let first = cond ((machine r bodies).move_hits g x) (counted (does r bodies ((machine r bodies).body_at g.task (ancestor (told_by r) above) x) h)) nothing in
+    let v = c.visit-visit.ensures.visit in
+    let next = c.visit-visit.result.next in
+    let h = here_elem name s kids next.above in
+    let p = (machine r bodies).body_at g.task (ancestor (told_by r) above) x in
+    let done = counted (does r bodies p h) in
+    let first = cond ((machine r bodies).move_hits g x) done nothing in
     let below = outputs_on r bodies (bare (trees kids.now)) h.above ((machine r bodies).move_step g x) in
-    let whole = outs_of_element r bodies above g h c.args.node.now name y s kids c.requires.node c.in-Elem.is refl (down_is r c.anc_step.result _ d) in
-    handed n c.args.output.now c.apply_to_element.new.output c.from_residual.result e (outputs_on r bodies (bare (before c.args.node.now none)) above g) c.from_residual.ensures.1
-    (subst (Fails n c.args.output.now e) (sym whole) (fails_first n c.args.output.now e first below (c.in_err-apply_to_element-in-Elem.ensures.outcome bodies g hb at)))
-
-pub apply_to_tree-sel_step-requires : goal.apply_to_tree-sel_step-requires
-apply_to_tree-sel_step-requires t c = some_move_counted (told_by c.args.runner.now) c.args.state c.requires.state
+    let whole = outs_of_element r bodies above g h c.args.node.now name y s kids c.requires.node c.in-Elem.is refl (down_is r next.above _ v.next.above) in
+    let meant = v.template.meant bodies g (node h) hb at (λ i. element_built_in h (see.name name) (bare (trees kids.now)) y.sym.0 refl i) in
+    let fails = subst (Fails n c.args.output.now e) (template_seen r c.args.state above x c.visit-visit.result.template v.template bodies g done at) (c.in_err-instantiate_some-in-Elem.ensures.outcome bodies p hb meant) in
+    handed n c.args.output.now c.instantiate_some.new.output c.from_residual.result e (outputs_on r bodies (bare (before c.args.node.now none)) above g) c.from_residual.ensures.1
+    (subst (Fails n c.args.output.now e) (sym whole) (fails_first n c.args.output.now e first below fails))
 
 pub apply_to_tree-apply_to_trees-requires : goal.apply_to_tree-apply_to_trees-requires
 apply_to_tree-apply_to_trees-requires t c =
     let r = c.args.runner.now in
     let x = letter (kinds.Elem c.in-Elem.letter.sym) c.in-Elem.letter.marks in
-    let kids = bare (trees c.in-Elem.kids.now) in
     let a = element_at r c.args.node.now c.in-Elem.name c.in-Elem.letter c.in-Elem.string c.in-Elem.kids none c.requires.node c.in-Elem.is in
-    let lx = is_letter r x (an_element (see.name c.in-Elem.name) kids) a.letter_is in
-    let d = c.anc_step.ensures (symbols_by r) c.requires.runner lx in (
+    let next = c.visit-visit.result.next in
+    let v = c.visit-visit.ensures.visit.next in (
       omega (arith, c.decreases, below_less c.args.nesting c.args.node.now c.in-Elem.name c.in-Elem.letter c.in-Elem.string c.in-Elem.kids 1 c.in-Elem.is (omega arith)),
-      (c.requires.runner, (a.kids_are, (down_low r c.anc_step.result _ d, (move_below r c.args.state c.in-Some.below x c.requires.state c.requires.runner lx c.in-Some.ensures, (c.requires.nesting, (c.in_ok-apply_to_element-in-Elem.ensures.few, c.in_ok-apply_to_element-in-Elem.ensures.known)))))),
+      (
+        record {
+          runner = c.requires.ready.runner;
+          above = down_low r next.above _ v.above;
+          state = move_below r c.args.state c.in-Some.below x c.requires.ready.state (leads_some r c.args.state c.in-Some.below x next.state v.state c.in-Some.is);
+          known = c.in_ok-instantiate_some-in-Elem.ensures.ready.known;
+          work = c.in_ok-instantiate_some-in-Elem.ensures.ready.few;
+          nesting = c.requires.ready.nesting;
+        },
+        a.kids_are,
+      ),
     )
 
 pub apply_to_tree-returns-in-None-clause-outcome : goal.apply_to_tree-returns-in-None-clause-outcome
@@ -471,16 +496,20 @@ apply_to_tree-returns-in-None-clause-outcome t c = λ bodies g hb at.
     let y = c.in-Elem.letter in
     let above = c.args.above in
     let x = letter (kinds.Elem y.sym) y.marks in
-    let a = element_at r c.args.node.now name y s kids none c.requires.node c.in-Elem.is in
-    let lx = is_letter r x (an_element (see.name name) (bare (trees kids.now))) a.letter_is in
-    let d = c.anc_step.ensures (symbols_by r) c.requires.runner lx in
-    let h = here_elem name s kids c.anc_step.result in
-    let first = cond ((machine r bodies).move_hits g x) (counted (does r bodies ((machine r bodies).body_at g.task (ancestor (told_by r) above) x) h)) nothing in
+    let v = c.visit-visit.ensures.visit in
+    let next = c.visit-visit.result.next in
+    let h = here_elem name s kids next.above in
+    let p = (machine r bodies).body_at g.task (ancestor (told_by r) above) x in
+    let done = counted (does r bodies p h) in
+    let first = cond ((machine r bodies).move_hits g x) done nothing in
     let below = outputs_on r bodies (bare (trees kids.now)) h.above ((machine r bodies).move_step g x) in
-    let whole = outs_of_element r bodies above g h c.args.node.now name y s kids c.requires.node c.in-Elem.is refl (down_is r c.anc_step.result _ d) in
-    let empty = c.in-None.ensures (symbols_by r) (record { path = g.path; mode = Some at.mode }) g.state c.requires.runner lx at.state in
-    subst (Spends n c.args.output.now c.apply_to_element.new.output) (sym whole)
-    (spends_last n c.args.output.now c.apply_to_element.new.output first below (c.in_ok-apply_to_element-in-Elem.ensures.outcome bodies g hb at)
+    let whole = outs_of_element r bodies above g h c.args.node.now name y s kids c.requires.node c.in-Elem.is refl (down_is r next.above _ v.next.above) in
+    let meant = v.template.meant bodies g (node h) hb at (λ i. element_built_in h (see.name name) (bare (trees kids.now)) y.sym.0 refl i) in
+    let spends = subst (Spends n c.args.output.now c.instantiate_some.new.output) (template_seen r c.args.state above x c.visit-visit.result.template v.template bodies g done at)
+    (c.in_ok-instantiate_some-in-Elem.ensures.outcome bodies p hb meant) in
+    let empty = leads_none r c.args.state x next.state v.next.state c.in-None.is (record { path = g.path; mode = Some at.mode }) g.state at.state in
+    subst (Spends n c.args.output.now c.instantiate_some.new.output) (sym whole)
+    (spends_last n c.args.output.now c.instantiate_some.new.output first below spends
     (outputs_none (symbols_by r) (predicates_by r) (sheet_by r).rules bodies (bare (trees kids.now)) g.task (ancestor (told_by r) h.above) ((machine r bodies).move_step g x) empty))
 
 pub apply_to_tree-returns-in-Some-clause-outcome : goal.apply_to_tree-returns-in-Some-clause-outcome
@@ -493,242 +522,92 @@ apply_to_tree-returns-in-Some-clause-outcome t c = λ bodies g hb at.
     let y = c.in-Elem.letter in
     let above = c.args.above in
     let x = letter (kinds.Elem y.sym) y.marks in
-    let a = element_at r c.args.node.now name y s kids none c.requires.node c.in-Elem.is in
-    let lx = is_letter r x (an_element (see.name name) (bare (trees kids.now))) a.letter_is in
-    let d = c.anc_step.ensures (symbols_by r) c.requires.runner lx in
-    let h = here_elem name s kids c.anc_step.result in
-    let first = cond ((machine r bodies).move_hits g x) (counted (does r bodies ((machine r bodies).body_at g.task (ancestor (told_by r) above) x) h)) nothing in
-    let next = (machine r bodies).move_step g x in
-    let below = outputs_on r bodies (bare (trees kids.now)) h.above next in
-    let whole = outs_of_element r bodies above g h c.args.node.now name y s kids c.requires.node c.in-Elem.is refl (down_is r c.anc_step.result _ d) in
+    let v = c.visit-visit.ensures.visit in
+    let next = c.visit-visit.result.next in
+    let h = here_elem name s kids next.above in
+    let p = (machine r bodies).body_at g.task (ancestor (told_by r) above) x in
+    let done = counted (does r bodies p h) in
+    let first = cond ((machine r bodies).move_hits g x) done nothing in
+    let going = (machine r bodies).move_step g x in
+    let below = outputs_on r bodies (bare (trees kids.now)) h.above going in
+    let whole = outs_of_element r bodies above g h c.args.node.now name y s kids c.requires.node c.in-Elem.is refl (down_is r next.above _ v.next.above) in
+    let meant = v.template.meant bodies g (node h) hb at (λ i. element_built_in h (see.name name) (bare (trees kids.now)) y.sym.0 refl i) in
+    let spends = subst (Spends n c.args.output.now c.instantiate_some.new.output) (template_seen r c.args.state above x c.visit-visit.result.template v.template bodies g done at)
+    (c.in_ok-instantiate_some-in-Elem.ensures.outcome bodies p hb meant) in
     subst (Answers n c.args.output.now c.apply_to_trees.new.output c.apply_to_trees.result) (sym whole)
-    (answers_then n c.args.output.now c.apply_to_element.new.output c.apply_to_trees.new.output c.apply_to_trees.result first below (c.in_ok-apply_to_element-in-Elem.ensures.outcome bodies g hb at)
-    (c.apply_to_trees.ensures.outcome bodies next hb (going_below r bodies c.args.state c.in-Some.below g x at c.requires.runner lx c.in-Some.ensures)))
-
-pub copy-body-requires : goal.copy-body-requires
-copy-body-requires t c = (omega (arith, c.decreases), (c.requires.runner, (c.requires.here, (c.requires.part, (c.requires.nesting, (c.requires.work, c.requires.known))))))
-
-pub copy-put_element-requires : goal.copy-put_element-requires
-copy-put_element-requires t c = (omega (arith, c.decreases), (c.requires.runner, (c.requires.here, (c.requires.part, (c.requires.nesting, (c.requires.work, c.requires.known))))))
-
-pub put_element-body-requires : goal.put_element-body-requires
-put_element-body-requires t c = (omega (arith, c.decreases), (c.requires.runner, (c.requires.here, (c.requires.part, (c.requires.nesting, (c.in_ok-before.ensures.work.1, c.requires.known))))))
-
-pub body-instruction-requires : goal.body-instruction-requires
-body-instruction-requires t c =
-    let r = c.args.runner.now in
-    let part = part_at (sheet_by r) c.args.body.now c.loop-one.one-index c.one-item.result c.loop-one-test.true c.one-item.is c.loop-one.invariant.1 in
-    (omega (arith, c.decreases), (c.requires.runner, (c.requires.here, (part.0, (c.requires.nesting, (c.loop-one.invariant.0.0, c.loop-one.invariant.0.1))))))
-
-pub apply_to_element-instantiate-requires : goal.apply_to_element-instantiate-requires
-apply_to_element-instantiate-requires t c =
-    (omega (arith, c.decreases), (c.requires.runner, (c.requires.here, (c.template_for-rule.ensures.part, (c.requires.nesting, (c.requires.work, c.template_for-rule.ensures.known))))))
-
-pub instantiate-body-requires : goal.instantiate-body-requires
-instantiate-body-requires t c = (
-  omega (arith, c.decreases, deeper_less c.args.nesting c.in_ok-nesting.nesting (bare (trees c.args.here.now.kids.now)) 7 1 c.in_ok-nesting.ensures.ok (omega arith)),
-  (c.requires.runner, (c.requires.here, (subst (IsPartTemplate (sheet_by c.args.runner.now)) c.in-Body.is c.requires.meant, (c.in_ok-nesting.ensures.ok.1, (c.in_ok-count.ensures.ok.1, c.requires.known))))),
-)
-
-pub instantiate-built_in-requires : goal.instantiate-built_in-requires
-instantiate-built_in-requires t c = (
-  omega (arith, c.decreases, deeper_less c.args.nesting c.in_ok-nesting.nesting (bare (trees c.args.here.now.kids.now)) 1 1 c.in_ok-nesting.ensures.ok (omega arith)),
-  (c.requires.runner, (c.requires.here, (subst (IsPartTemplate (sheet_by c.args.runner.now)) c.in-BuiltIn.is c.requires.meant, (c.in_ok-nesting.ensures.ok.1, (c.in_ok-count.ensures.ok.1, c.requires.known))))),
-)
-
-pub instruction-selected-requires : goal.instruction-selected-requires
-instruction-selected-requires t c = (
-  omega (arith, c.decreases, deeper_less c.args.nesting c.in_ok-nesting.nesting (bare (trees c.args.here.now.kids.now)) 3 6 c.in_ok-nesting.ensures.ok (omega arith)),
-  (c.requires.runner, (c.requires.here, ((apply_part (sheet_by c.args.runner.now) c.args.instruction.now c.in-Apply.path c.in-Apply.mode c.in-Apply.is c.requires.part).0, (c.in_ok-nesting.ensures.ok.1, (c.requires.work, c.requires.known))))),
-)
-
-pub instruction-body-requires : goal.instruction-body-requires
-instruction-body-requires t c = (
-  omega (arith, c.decreases, deeper_less c.args.nesting c.in_ok-nesting.nesting (bare (trees c.args.here.now.kids.now)) 7 6 c.in_ok-nesting.ensures.ok (omega arith)),
-  (c.requires.runner, (c.requires.here, (c.chosen_branch-chosen.ensures.part, (c.in_ok-nesting.ensures.ok.1, (c.requires.work, c.requires.known))))),
-)
-
-pub instruction-selected-requires-in-ForEach : goal.instruction-selected-requires-in-ForEach
-instruction-selected-requires-in-ForEach t c = (
-  omega (arith, c.decreases, deeper_less c.args.nesting c.in_ok-nesting.nesting (bare (trees c.args.here.now.kids.now)) 3 6 c.in_ok-nesting.ensures.ok (omega arith)),
-  (c.requires.runner, (c.requires.here, ((for_each_part (sheet_by c.args.runner.now) c.args.instruction.now c.in-ForEach.number c.in-ForEach.path c.in-ForEach.field-2 c.in-ForEach.is c.requires.part).0, (c.in_ok-nesting.ensures.ok.1, (c.requires.work, c.requires.known))))),
-)
+    (answers_then n c.args.output.now c.instantiate_some.new.output c.apply_to_trees.new.output c.apply_to_trees.result first below spends
+    (c.apply_to_trees.ensures.outcome bodies going hb (going_below r bodies c.args.state c.in-Some.below g x at (leads_some r c.args.state c.in-Some.below x next.state v.next.state c.in-Some.is))))
 
 -- what fails has no value
 failed : {T E : Type 0} (r : Result T E) (P : Type 0) (Q : E → Type 0) → IsErrAnd r Q → OnOk r P
 failed (Ok v) P Q h = absurd h
 failed (Err e) P Q h = tt
 
-pub copy-returns-in-Root-clause-few : goal.copy-returns-in-Root-clause-few
-copy-returns-in-Root-clause-few t c = c.body.ensures.few
+pub copy-returns-in-Root-clause-ready : goal.copy-returns-in-Root-clause-ready
+copy-returns-in-Root-clause-ready t c = c.body.ensures.ready
 
-pub copy-returns-in-Root-clause-known : goal.copy-returns-in-Root-clause-known
-copy-returns-in-Root-clause-known t c = c.body.ensures.known
+pub copy-returns-in-Elem-clause-ready : goal.copy-returns-in-Elem-clause-ready
+copy-returns-in-Elem-clause-ready t c = c.put_element.ensures.ready
 
-pub copy-returns-in-Elem-clause-few : goal.copy-returns-in-Elem-clause-few
-copy-returns-in-Elem-clause-few t c = c.put_element.ensures.few
+pub instantiate-returns-in-Body-clause-ready : goal.instantiate-returns-in-Body-clause-ready
+instantiate-returns-in-Body-clause-ready t c = c.body.ensures.ready
 
-pub copy-returns-in-Elem-clause-known : goal.copy-returns-in-Elem-clause-known
-copy-returns-in-Elem-clause-known t c = c.put_element.ensures.known
+pub instantiate-returns-in-BuiltIn-clause-ready : goal.instantiate-returns-in-BuiltIn-clause-ready
+instantiate-returns-in-BuiltIn-clause-ready t c = c.built_in.ensures.ready
 
-pub apply_to_element-returns-clause-few : goal.apply_to_element-returns-clause-few
-apply_to_element-returns-clause-few t c = c.instantiate.ensures.few
+pub instruction-returns-in-Text-clause-ready : goal.instruction-returns-in-Text-clause-ready
+instruction-returns-in-Text-clause-ready t c = record { few = c.put.ensures.few; known = c.requires.ready.known }
 
-pub apply_to_element-returns-clause-known : goal.apply_to_element-returns-clause-known
-apply_to_element-returns-clause-known t c = c.instantiate.ensures.known
+pub instruction-returns-in-Elem-clause-ready : goal.instruction-returns-in-Elem-clause-ready
+instruction-returns-in-Elem-clause-ready t c = c.put_element.ensures.ready
 
-pub apply_to_text-returns-clause-few : goal.apply_to_text-returns-clause-few
-apply_to_text-returns-clause-few t c = c.instantiate.ensures.few
+pub instruction-returns-in-Copy-clause-ready : goal.instruction-returns-in-Copy-clause-ready
+instruction-returns-in-Copy-clause-ready t c = c.copy.ensures.ready
 
-pub apply_to_text-returns-clause-known : goal.apply_to_text-returns-clause-known
-apply_to_text-returns-clause-known t c = c.instantiate.ensures.known
+pub instruction-returns-in-Apply-clause-ready : goal.instruction-returns-in-Apply-clause-ready
+instruction-returns-in-Apply-clause-ready t c = c.selected.ensures.ready
 
-pub instantiate-returns-in-Body-clause-few : goal.instantiate-returns-in-Body-clause-few
-instantiate-returns-in-Body-clause-few t c = c.body.ensures.few
+pub instruction-returns-in-Call-clause-ready : goal.instruction-returns-in-Call-clause-ready
+instruction-returns-in-Call-clause-ready t c = c.instantiate.ensures.ready
 
-pub instantiate-returns-in-Body-clause-known : goal.instantiate-returns-in-Body-clause-known
-instantiate-returns-in-Body-clause-known t c = c.body.ensures.known
+pub instruction-returns-in-ValueOf-clause-ready : goal.instruction-returns-in-ValueOf-clause-ready
+instruction-returns-in-ValueOf-clause-ready t c = record { few = c.put-in-ValueOf.ensures.few; known = record { found = c.requires.ready.known.found; sights = c.value-first.ensures.known } }
 
-pub instantiate-returns-in-BuiltIn-clause-few : goal.instantiate-returns-in-BuiltIn-clause-few
-instantiate-returns-in-BuiltIn-clause-few t c = c.built_in.ensures.few
+pub instruction-returns-in-ValueOfSelf-clause-ready : goal.instruction-returns-in-ValueOfSelf-clause-ready
+instruction-returns-in-ValueOfSelf-clause-ready t c = record { few = c.put-in-ValueOfSelf.ensures.few; known = c.requires.ready.known }
 
-pub instantiate-returns-in-BuiltIn-clause-known : goal.instantiate-returns-in-BuiltIn-clause-known
-instantiate-returns-in-BuiltIn-clause-known t c = c.built_in.ensures.known
+pub instruction-returns-in-Choose-clause-ready : goal.instruction-returns-in-Choose-clause-ready
+instruction-returns-in-Choose-clause-ready t c = c.body.ensures.ready
 
-pub instruction-returns-in-Text-clause-few : goal.instruction-returns-in-Text-clause-few
-instruction-returns-in-Text-clause-few t c = c.put.ensures.few
+pub instruction-returns-in-ForEach-clause-ready : goal.instruction-returns-in-ForEach-clause-ready
+instruction-returns-in-ForEach-clause-ready t c = c.selected-in-ForEach.ensures.ready
 
-pub instruction-returns-in-Text-clause-known : goal.instruction-returns-in-Text-clause-known
-instruction-returns-in-Text-clause-known t c = c.requires.known
+pub selected-returns-in-Some-clause-ready : goal.selected-returns-in-Some-clause-ready
+selected-returns-in-Some-clause-ready t c = c.apply_to_trees.ensures.ready
 
-pub instruction-returns-in-Elem-clause-few : goal.instruction-returns-in-Elem-clause-few
-instruction-returns-in-Elem-clause-few t c = c.put_element.ensures.few
+pub selected-returns-in-None-clause-ready : goal.selected-returns-in-None-clause-ready
+selected-returns-in-None-clause-ready t c = record { few = c.requires.ready.work; known = c.requires.ready.known }
 
-pub instruction-returns-in-Elem-clause-known : goal.instruction-returns-in-Elem-clause-known
-instruction-returns-in-Elem-clause-known t c = c.put_element.ensures.known
+pub put_element-returns-in_err-body-clause-ready : goal.put_element-returns-in_err-body-clause-ready
+put_element-returns-in_err-body-clause-ready t c = record { few = failed c.from_residual-in_err-body.result _ _ c.from_residual-in_err-body.ensures.1; known = c.in_err-body.ensures.ready.known }
 
-pub instruction-returns-in-Copy-clause-few : goal.instruction-returns-in-Copy-clause-few
-instruction-returns-in-Copy-clause-few t c = c.copy.ensures.few
+pub body-returns-in_err-instruction-clause-ready : goal.body-returns-in_err-instruction-clause-ready
+body-returns-in_err-instruction-clause-ready t c = record { few = failed c.from_residual.result _ _ c.from_residual.ensures.1; known = c.in_err-instruction.ensures.ready.known }
 
-pub instruction-returns-in-Copy-clause-known : goal.instruction-returns-in-Copy-clause-known
-instruction-returns-in-Copy-clause-known t c = c.copy.ensures.known
+pub apply_to_trees-returns-in_err-apply_to_tree-clause-ready : goal.apply_to_trees-returns-in_err-apply_to_tree-clause-ready
+apply_to_trees-returns-in_err-apply_to_tree-clause-ready t c = record { few = failed c.from_residual.result _ _ c.from_residual.ensures.1; known = c.in_err-apply_to_tree.ensures.ready.known }
 
-pub instruction-returns-in-Apply-clause-few : goal.instruction-returns-in-Apply-clause-few
-instruction-returns-in-Apply-clause-few t c = c.selected.ensures.few
+pub instruction-returns-in_err-nesting-clause-ready : goal.instruction-returns-in_err-nesting-clause-ready
+instruction-returns-in_err-nesting-clause-ready t c = record { few = failed c.from_residual.result _ _ c.from_residual.ensures.1; known = c.requires.ready.known }
 
-pub instruction-returns-in-Apply-clause-known : goal.instruction-returns-in-Apply-clause-known
-instruction-returns-in-Apply-clause-known t c = c.selected.ensures.known
+pub body-returns-clause-ready : goal.body-returns-clause-ready
+body-returns-clause-ready t c = record { few = c.loop-one.invariant.0.0; known = c.loop-one.invariant.0.1 }
 
-pub instruction-returns-in-Call-clause-few : goal.instruction-returns-in-Call-clause-few
-instruction-returns-in-Call-clause-few t c = c.instantiate.ensures.few
+pub apply_to_trees-returns-clause-ready : goal.apply_to_trees-returns-clause-ready
+apply_to_trees-returns-clause-ready t c = record { few = c.loop-node.invariant.0.0; known = c.loop-node.invariant.0.1 }
 
-pub instruction-returns-in-Call-clause-known : goal.instruction-returns-in-Call-clause-known
-instruction-returns-in-Call-clause-known t c = c.instantiate.ensures.known
-
-pub instruction-returns-in-ValueOf-clause-few : goal.instruction-returns-in-ValueOf-clause-few
-instruction-returns-in-ValueOf-clause-few t c = c.put-in-ValueOf.ensures.few
-
-pub instruction-returns-in-ValueOf-clause-known : goal.instruction-returns-in-ValueOf-clause-known
-instruction-returns-in-ValueOf-clause-known t c = c.requires.known
-
-pub instruction-returns-in-ValueOfSelf-clause-few : goal.instruction-returns-in-ValueOfSelf-clause-few
-instruction-returns-in-ValueOfSelf-clause-few t c = c.put-in-ValueOfSelf.ensures.few
-
-pub instruction-returns-in-ValueOfSelf-clause-known : goal.instruction-returns-in-ValueOfSelf-clause-known
-instruction-returns-in-ValueOfSelf-clause-known t c = c.requires.known
-
-pub instruction-returns-in-Choose-clause-few : goal.instruction-returns-in-Choose-clause-few
-instruction-returns-in-Choose-clause-few t c = c.body.ensures.few
-
-pub instruction-returns-in-Choose-clause-known : goal.instruction-returns-in-Choose-clause-known
-instruction-returns-in-Choose-clause-known t c = c.body.ensures.known
-
-pub instruction-returns-in-ForEach-clause-few : goal.instruction-returns-in-ForEach-clause-few
-instruction-returns-in-ForEach-clause-few t c = c.selected-in-ForEach.ensures.few
-
-pub instruction-returns-in-ForEach-clause-known : goal.instruction-returns-in-ForEach-clause-known
-instruction-returns-in-ForEach-clause-known t c = c.selected-in-ForEach.ensures.known
-
-pub selected-returns-in-Some-clause-few : goal.selected-returns-in-Some-clause-few
-selected-returns-in-Some-clause-few t c = c.apply_to_trees.ensures.few
-
-pub selected-returns-in-Some-clause-known : goal.selected-returns-in-Some-clause-known
-selected-returns-in-Some-clause-known t c = c.apply_to_trees.ensures.known
-
-pub selected-returns-in-None-clause-few : goal.selected-returns-in-None-clause-few
-selected-returns-in-None-clause-few t c = c.requires.work
-
-pub selected-returns-in-None-clause-known : goal.selected-returns-in-None-clause-known
-selected-returns-in-None-clause-known t c = c.requires.known
-
-pub apply_to_element-returns-then-not-sel_hits-clause-few : goal.apply_to_element-returns-then-not-sel_hits-clause-few
-apply_to_element-returns-then-not-sel_hits-clause-few t c = c.requires.work
-
-pub apply_to_element-returns-then-not-sel_hits-clause-known : goal.apply_to_element-returns-then-not-sel_hits-clause-known
-apply_to_element-returns-then-not-sel_hits-clause-known t c = c.requires.known
-
-pub apply_to_tree-returns-in-Some-clause-few : goal.apply_to_tree-returns-in-Some-clause-few
-apply_to_tree-returns-in-Some-clause-few t c = c.apply_to_trees.ensures.few
-
-pub apply_to_tree-returns-in-Some-clause-known : goal.apply_to_tree-returns-in-Some-clause-known
-apply_to_tree-returns-in-Some-clause-known t c = c.apply_to_trees.ensures.known
-
-pub apply_to_tree-returns-in-None-clause-few : goal.apply_to_tree-returns-in-None-clause-few
-apply_to_tree-returns-in-None-clause-few t c = c.in_ok-apply_to_element-in-Elem.ensures.few
-
-pub apply_to_tree-returns-in-None-clause-known : goal.apply_to_tree-returns-in-None-clause-known
-apply_to_tree-returns-in-None-clause-known t c = c.in_ok-apply_to_element-in-Elem.ensures.known
-
-pub put_element-returns-in_err-body-clause-few : goal.put_element-returns-in_err-body-clause-few
-put_element-returns-in_err-body-clause-few t c = failed c.from_residual-in_err-body.result _ _ c.from_residual-in_err-body.ensures.1
-
-pub put_element-returns-in_err-body-clause-known : goal.put_element-returns-in_err-body-clause-known
-put_element-returns-in_err-body-clause-known t c = c.in_err-body.ensures.known
-
-pub body-returns-in_err-instruction-clause-few : goal.body-returns-in_err-instruction-clause-few
-body-returns-in_err-instruction-clause-few t c = failed c.from_residual.result _ _ c.from_residual.ensures.1
-
-pub body-returns-in_err-instruction-clause-known : goal.body-returns-in_err-instruction-clause-known
-body-returns-in_err-instruction-clause-known t c = c.in_err-instruction.ensures.known
-
-pub apply_to_trees-returns-in_err-apply_to_tree-clause-few : goal.apply_to_trees-returns-in_err-apply_to_tree-clause-few
-apply_to_trees-returns-in_err-apply_to_tree-clause-few t c = failed c.from_residual.result _ _ c.from_residual.ensures.1
-
-pub apply_to_trees-returns-in_err-apply_to_tree-clause-known : goal.apply_to_trees-returns-in_err-apply_to_tree-clause-known
-apply_to_trees-returns-in_err-apply_to_tree-clause-known t c = c.in_err-apply_to_tree.ensures.known
-
-pub instruction-returns-in_err-nesting-clause-few : goal.instruction-returns-in_err-nesting-clause-few
-instruction-returns-in_err-nesting-clause-few t c = failed c.from_residual.result _ _ c.from_residual.ensures.1
-
-pub instruction-returns-in_err-nesting-clause-known : goal.instruction-returns-in_err-nesting-clause-known
-instruction-returns-in_err-nesting-clause-known t c = c.requires.known
-
-pub apply_to_tree-returns-in_err-apply_to_element-in-Elem-clause-few : goal.apply_to_tree-returns-in_err-apply_to_element-in-Elem-clause-few
-apply_to_tree-returns-in_err-apply_to_element-in-Elem-clause-few t c = failed c.from_residual.result _ _ c.from_residual.ensures.1
-
-pub apply_to_tree-returns-in_err-apply_to_element-in-Elem-clause-known : goal.apply_to_tree-returns-in_err-apply_to_element-in-Elem-clause-known
-apply_to_tree-returns-in_err-apply_to_element-in-Elem-clause-known t c = c.in_err-apply_to_element-in-Elem.ensures.known
-
-pub put_element-returns-clause-known : goal.put_element-returns-clause-known
-put_element-returns-clause-known t c = c.in_ok-body.ensures.known
-
-pub body-returns-clause-few : goal.body-returns-clause-few
-body-returns-clause-few t c = c.loop-one.invariant.0.0
-
-pub body-returns-clause-known : goal.body-returns-clause-known
-body-returns-clause-known t c = c.loop-one.invariant.0.1
-
-pub apply_to_trees-returns-clause-few : goal.apply_to_trees-returns-clause-few
-apply_to_trees-returns-clause-few t c = c.loop-node.invariant.0.0
-
-pub apply_to_trees-returns-clause-known : goal.apply_to_trees-returns-clause-known
-apply_to_trees-returns-clause-known t c = c.loop-node.invariant.0.1
-
-pub instantiate-returns-in_err-nesting-clause-few : goal.instantiate-returns-in_err-nesting-clause-few
-instantiate-returns-in_err-nesting-clause-few t c = failed c.from_residual.result _ _ c.from_residual.ensures.1
-
-pub instantiate-returns-in_err-nesting-clause-known : goal.instantiate-returns-in_err-nesting-clause-known
-instantiate-returns-in_err-nesting-clause-known t c = c.requires.known
+pub instantiate-returns-in_err-nesting-clause-ready : goal.instantiate-returns-in_err-nesting-clause-ready
+instantiate-returns-in_err-nesting-clause-ready t c = record { few = failed c.from_residual.result _ _ c.from_residual.ensures.1; known = c.requires.ready.known }
 
 pub instantiate-returns-in_err-nesting-clause-outcome : goal.instantiate-returns-in_err-nesting-clause-outcome
 instantiate-returns-in_err-nesting-clause-outcome t c = λ bodies p hb m.
@@ -738,11 +617,8 @@ instantiate-returns-in_err-nesting-clause-outcome t c = λ bodies p hb m.
     let a = does c.args.runner.now bodies p c.args.here.now in
     handed n x x c.from_residual.result e (counted a) c.from_residual.ensures.1 (counted_deep n x e a c.in_err-nesting.ensures.err)
 
-pub instantiate-returns-in_err-count-clause-few : goal.instantiate-returns-in_err-count-clause-few
-instantiate-returns-in_err-count-clause-few t c = failed c.from_residual-in_err-count.result _ _ c.from_residual-in_err-count.ensures.1
-
-pub instantiate-returns-in_err-count-clause-known : goal.instantiate-returns-in_err-count-clause-known
-instantiate-returns-in_err-count-clause-known t c = c.requires.known
+pub instantiate-returns-in_err-count-clause-ready : goal.instantiate-returns-in_err-count-clause-ready
+instantiate-returns-in_err-count-clause-ready t c = record { few = failed c.from_residual-in_err-count.result _ _ c.from_residual-in_err-count.ensures.1; known = c.requires.ready.known }
 
 pub instantiate-returns-in_err-count-clause-outcome : goal.instantiate-returns-in_err-count-clause-outcome
 instantiate-returns-in_err-count-clause-outcome t c = λ bodies p hb m.
@@ -752,11 +628,8 @@ instantiate-returns-in_err-count-clause-outcome t c = λ bodies p hb m.
     let a = does c.args.runner.now bodies p c.args.here.now in
     handed n x c.count.new.self c.from_residual-in_err-count.result e (counted a) c.from_residual-in_err-count.ensures.1 (counted_long n x e a c.in_err-count.ensures.err)
 
-pub put_element-returns-in_err-before-clause-few : goal.put_element-returns-in_err-before-clause-few
-put_element-returns-in_err-before-clause-few t c = failed c.from_residual.result _ _ c.from_residual.ensures.1
-
-pub put_element-returns-in_err-before-clause-known : goal.put_element-returns-in_err-before-clause-known
-put_element-returns-in_err-before-clause-known t c = c.requires.known
+pub put_element-returns-in_err-before-clause-ready : goal.put_element-returns-in_err-before-clause-ready
+put_element-returns-in_err-before-clause-ready t c = record { few = failed c.from_residual.result _ _ c.from_residual.ensures.1; known = c.requires.ready.known }
 
 pub put_element-returns-in_err-before-clause-outcome : goal.put_element-returns-in_err-before-clause-outcome
 put_element-returns-in_err-before-clause-outcome t c = λ bodies p hb u.
@@ -766,3 +639,27 @@ put_element-returns-in_err-before-clause-outcome t c = λ bodies p hb u.
     let e = c.in_err-before.field-0.0 in
     let a = does c.args.runner.now bodies p c.args.here.now in
     handed n x c.enter.new.self c.from_residual.result e (put_around name a) c.from_residual.ensures.1 (around_long n x name e a c.in_err-before.ensures.err)
+
+pub instantiate_some-returns-in-Some-clause-ready : goal.instantiate_some-returns-in-Some-clause-ready
+instantiate_some-returns-in-Some-clause-ready t c = c.instantiate.ensures.ready
+
+pub instantiate_some-returns-in-None-clause-ready : goal.instantiate_some-returns-in-None-clause-ready
+instantiate_some-returns-in-None-clause-ready t c = record { few = c.requires.ready.work; known = c.requires.ready.known }
+
+pub apply_to_text-returns-clause-ready : goal.apply_to_text-returns-clause-ready
+apply_to_text-returns-clause-ready t c = c.instantiate_some.ensures.ready
+
+pub apply_to_tree-returns-in-Some-clause-ready : goal.apply_to_tree-returns-in-Some-clause-ready
+apply_to_tree-returns-in-Some-clause-ready t c = c.apply_to_trees.ensures.ready
+
+pub apply_to_tree-returns-in-None-clause-ready : goal.apply_to_tree-returns-in-None-clause-ready
+apply_to_tree-returns-in-None-clause-ready t c = c.in_ok-instantiate_some-in-Elem.ensures.ready
+
+pub apply_to_tree-returns-in_err-instantiate_some-in-Elem-clause-ready : goal.apply_to_tree-returns-in_err-instantiate_some-in-Elem-clause-ready
+apply_to_tree-returns-in_err-instantiate_some-in-Elem-clause-ready t c = record { few = failed c.from_residual.result _ _ c.from_residual.ensures.1; known = c.in_err-instantiate_some-in-Elem.ensures.ready.known }
+
+pub instruction-value-first-requires-clause-here : goal.instruction-value-first-requires-clause-here
+instruction-value-first-requires-clause-here t c = record { runner = c.requires.ready.runner; here = c.requires.ready.here; known = c.requires.ready.known.sights }
+
+pub instruction-chosen_branch-chosen-requires-clause-here : goal.instruction-chosen_branch-chosen-requires-clause-here
+instruction-chosen_branch-chosen-requires-clause-here t c = record { runner = c.requires.ready.runner; here = c.requires.ready.here; known = c.requires.ready.known.sights }

@@ -5,9 +5,10 @@ use Rattle.tc_rules.specs.States.{Going}
 use Rattle.tc_model.specs.Trees.{none}
 use Rattle.tc_run.specs.Lettered.{bare, none as no_tree}
 use Rattle.tc_rules.specs.Parts.{IsPart}
-use Rattle.tc_run.specs.Running.{AreFoundBy, IsLetteredBy, HasBodies, sheet_by, told_by}
+use Rattle.tc_run.specs.Running.{IsLetteredBy, HasBodies, sheet_by, told_by}
 use Rattle.tc_run.specs.Views.{before, trees}
 use Rattle.tc_rules.specs.Tasks.{IsMoveAt}
+use Rattle.tc_run.specs.Visits.{AreFoundBy}
 use Rattle.tc_run.proofs.Progress.{BodySoFar, HitsSoFar, left_at}
 use Rattle.tc_run.proofs.bodies.+bodies.Given as goal
 
@@ -31,10 +32,10 @@ abbrev pub decreases-apply_to_tree : goal.decreases-apply_to_tree
 decreases-apply_to_tree l = left_at l.nesting (bare (before l.node.now no_tree)) 0
 
 abbrev pub decreases-apply_to_text : goal.decreases-apply_to_text
-decreases-apply_to_text l = left_at l.nesting none 2
+decreases-apply_to_text l = left_at l.nesting none 5
 
-abbrev pub decreases-apply_to_element : goal.decreases-apply_to_element
-decreases-apply_to_element l = left_at l.nesting (bare (trees l.here.now.kids.now)) 4
+abbrev pub decreases-instantiate_some : goal.decreases-instantiate_some
+decreases-instantiate_some l = left_at l.nesting (bare (trees l.here.now.kids.now)) 4
 
 abbrev pub decreases-selected : goal.decreases-selected
 decreases-selected l = left_at l.nesting (bare (trees l.here.now.kids.now)) 3

@@ -22,9 +22,9 @@ returns-then-holds-clause-chosen c = λ x u.
     let named = (sheet_by r).named in
     let last : Branches = otherwise (see.body c.args.last.now) in
     let rest : Branches = see.branches (drop (k + 1) bs) last in
-    let (y, v, same) = c.loop-branch.invariant.1 x u in
+    let (y, v, same) = c.loop-branch.invariant.2 x u in
     let holds : (bodies : List CallFreeBody) → holds_in (machine r bodies) (see.test b.test) (children (node h)) ≡ true =
-    λ bodies. test_holds r h named (see.test b.test) c.holds.result c.requires.here.children_are c.holds.ensures bodies ∙ c.if-holds.true in
+    λ bodies. test_holds r h named (see.test b.test) c.holds.result c.requires.here.here.children_are c.holds.ensures.holds bodies ∙ c.if-holds.true in
     let (p, w, eq) = branch_this r h named (see.test b.test) (see.body b.body.now) rest (subst (λ z. BranchesInline named z y) (left_branch bs k b last c.loop-branch-test.true is) v) holds in
     (p, w, λ bodies outs. same bodies outs ∙ eq bodies outs)
 
@@ -40,10 +40,11 @@ loop-branch-preserved c =
     let last : Branches = otherwise (see.body c.args.last.now) in
     let rest : Branches = see.branches (drop (k + 1) bs) last in
     let fails : (bodies : List CallFreeBody) → holds_in (machine r bodies) (see.test b.test) (children (node h)) ≡ false =
-    λ bodies. test_holds r h named (see.test b.test) c.holds.result c.requires.here.children_are c.holds.ensures bodies ∙ c.if-holds.false in (
-      (branch_part_at (sheet_by r) bs k b last c.loop-branch-test.true is c.loop-branch.invariant.0).2,
+    λ bodies. test_holds r h named (see.test b.test) c.holds.result c.requires.here.here.children_are c.holds.ensures.holds bodies ∙ c.if-holds.false in (
+      c.holds.ensures.known,
+      (branch_part_at (sheet_by r) bs k b last c.loop-branch-test.true is c.loop-branch.invariant.1).2,
       λ x u.
-          let (y, v, same) = c.loop-branch.invariant.1 x u in
+          let (y, v, same) = c.loop-branch.invariant.2 x u in
           let (z, w, eq) = branch_not r h named (see.test b.test) (see.body b.body.now) rest (subst (λ t. BranchesInline named t y) (left_branch bs k b last c.loop-branch-test.true is) v) fails in
           (z, w, λ bodies outs. same bodies outs ∙ eq bodies outs),
     )
@@ -56,18 +57,15 @@ returns-clause-chosen c = λ x u.
     let k = c.loop-branch.branch-index in
     let named = (sheet_by r).named in
     let last : Branches = otherwise (see.body c.args.last.now) in
-    let (y, v, same) = c.loop-branch.invariant.1 x u in
+    let (y, v, same) = c.loop-branch.invariant.2 x u in
     let (p, w, eq) = branch_last r h named (see.body c.args.last.now) (subst (λ z. BranchesInline named (see.branches z last) y) (drop_all k bs c.loop-branch-test.false) v) in
     (p, w, λ bodies outs. same bodies outs ∙ eq bodies outs)
 
 pub loop-branch-init : goal.loop-branch-init
-loop-branch-init c = (c.requires.part, λ x u. (x, u, λ bodies outs. refl))
-
-pub holds-requires-clause-runner : goal.holds-requires-clause-runner
-holds-requires-clause-runner c = c.requires.runner
+loop-branch-init c = (c.requires.here.known, c.requires.part, λ x u. (x, u, λ bodies outs. refl))
 
 pub holds-requires-clause-kids : goal.holds-requires-clause-kids
-holds-requires-clause-kids c = c.requires.here.kids
+holds-requires-clause-kids c = record { runner = c.requires.here.runner; nodes = c.requires.here.here.kids; known = c.loop-branch.invariant.0 }
 
 pub holds-requires-clause-test : goal.holds-requires-clause-test
 holds-requires-clause-test c =
@@ -76,7 +74,7 @@ holds-requires-clause-test c =
     let k = c.loop-branch.branch-index in
     let b = get_or bs k no_branch in
     let last : Branches = otherwise (see.body c.args.last.now) in
-    (branch_part_at (sheet_by r) bs k b last c.loop-branch-test.true (branch_is bs k no_branch c.loop-branch-test.true) c.loop-branch.invariant.0).0
+    (branch_part_at (sheet_by r) bs k b last c.loop-branch-test.true (branch_is bs k no_branch c.loop-branch-test.true) c.loop-branch.invariant.1).0
 
 pub returns-then-holds-clause-part : goal.returns-then-holds-clause-part
 returns-then-holds-clause-part c =
@@ -85,10 +83,10 @@ returns-then-holds-clause-part c =
     let k = c.loop-branch.branch-index in
     let b = get_or bs k no_branch in
     let last : Branches = otherwise (see.body c.args.last.now) in
-    (branch_part_at (sheet_by r) bs k b last c.loop-branch-test.true (branch_is bs k no_branch c.loop-branch-test.true) c.loop-branch.invariant.0).1
+    (branch_part_at (sheet_by r) bs k b last c.loop-branch-test.true (branch_is bs k no_branch c.loop-branch-test.true) c.loop-branch.invariant.1).1
 
 pub returns-clause-part : goal.returns-clause-part
 returns-clause-part c =
     let bs = c.args.branches.now in
     let last : Branches = otherwise (see.body c.args.last.now) in
-    subst (λ z. ArePartBranches (sheet_by c.args.runner.now) (see.branches z last)) (drop_all c.loop-branch.branch-index bs c.loop-branch-test.false) c.loop-branch.invariant.0
+    subst (λ z. ArePartBranches (sheet_by c.args.runner.now) (see.branches z last)) (drop_all c.loop-branch.branch-index bs c.loop-branch-test.false) c.loop-branch.invariant.1

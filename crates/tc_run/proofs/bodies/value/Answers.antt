@@ -10,14 +10,17 @@ use Rattle.tc_run.proofs.BuiltIn.{value_found}
 use Rattle.tc_run.proofs.FirstHits.{none_first}
 use Rattle.tc_run.proofs.bodies.value.Goals as goal
 
-pub returns-in-None : goal.returns-in-None
-returns-in-None c =
+pub returns-in-None-clause-value : goal.returns-in-None-clause-value
+returns-in-None-clause-value c =
     let r = c.args.runner.now in
-    sym (ap value_of_first (none_first r (see.path c.args.path.now) (bare (trees c.args.here.now.kids.now)) (c.in-None.ensures _ c.requires.runner)))
+    sym (ap value_of_first (none_first r (see.path c.args.path.now) (bare (trees c.args.here.now.kids.now)) (c.in-None.ensures _ c.requires.here.runner)))
 
-pub returns-in-Some : goal.returns-in-Some
-returns-in-Some c =
+pub returns-in-Some-clause-value : goal.returns-in-Some-clause-value
+returns-in-Some-clause-value c =
     let r = c.args.runner.now in
     let p = see.path c.args.path.now in
     value_found c.first_hit.result (first_hit (looking r) (bare (trees c.args.here.now.kids.now)) (looking_from p)) c.unwrap_or.result _
-    (c.first_hit.ensures (looking_from p) (c.in-Some.ensures (symbols_by r) c.requires.runner)) c.unwrap_or.ensures refl
+    (c.first_hit.ensures.answer (looking_from p) (c.in-Some.ensures (symbols_by r) c.requires.here.runner)) c.unwrap_or.ensures refl
+
+pub first_hit-requires-clause-nodes : goal.first_hit-requires-clause-nodes
+first_hit-requires-clause-nodes c = record { runner = c.requires.here.runner; nodes = c.requires.here.here.kids; known = c.requires.here.known }

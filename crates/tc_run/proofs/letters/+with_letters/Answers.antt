@@ -6,6 +6,7 @@ use Rattle.tc_model.specs.Views as see
 use Rattle.tc_model.specs.declared.tree.Node.TheViews.{the_lemmas}
 use Rattle.tc_run.specs.Named.{AreNamed}
 use Rattle.tc_run.specs.Running.{lettered_by}
+use Rattle.tc_run.specs.Sights.{AreSeenBy}
 use Rattle.tc_run.specs.Views.{before, trees}
 use Rattle.tc_run.specs.declared.letters.Lettered.TheVariants.{Text}
 use Rattle.tc_run.proofs.Marking.{text_lettered}
@@ -23,7 +24,7 @@ with_letters-requires t c =
     let rest = joined_texts (see.trees (drop (i + 1) ns)) in
     let cut = c.loop-node.invariant.cut in
     let first = has_front c.loop-node.rest.now (joined_texts (see.trees x.kids.now)) all rest cut.0 cut.1 (elem_joined ns i c.node-item.result x.name x.kids c.loop-node-test.true c.node-item.is x.is) in
-    (search (rules, the_lemmas), (c.requires.1.1.0, ((rest ++ cut.0, first), (c.requires.1.1.1.1.0, (c.loop-node.invariant.names, c.requires.1.1.1.1.1.1)))))
+    (search (rules, the_lemmas), (c.requires.1.1.0, ((rest ++ cut.0, first), (c.requires.1.1.1.1.0, (c.loop-node.invariant.known, c.requires.1.1.1.1.1.1)))))
 
 pub after-rest-requires : goal.after-rest-requires
 after-rest-requires t c =
@@ -48,8 +49,8 @@ lettered_element-tree-requires-clause-string t c =
     cut_end c.loop-node.rest.now c.before_end-string.result.now (joined_texts (see.trees c.in-Elem.kids.now)) below.rest.now c.in_ok-below-in-Elem.ensures.rest c.before_end-string.ensures
     ∙ sym (ap joined_texts (document_bare c.args.runner.now (trees below.nodes.now) (see.trees c.in-Elem.kids.now) c.in_ok-below-in-Elem.ensures.nodes))
 
-pub lettered_element-tree-requires-clause-names : goal.lettered_element-tree-requires-clause-names
-lettered_element-tree-requires-clause-names t c = c.in_ok-below-in-Elem.ensures.names
+pub lettered_element-tree-requires-clause-known : goal.lettered_element-tree-requires-clause-known
+lettered_element-tree-requires-clause-known t c = c.in_ok-below-in-Elem.ensures.known
 
 pub loop-node-preserved : goal.loop-node-preserved
 loop-node-preserved t c =
@@ -78,7 +79,7 @@ loop-node-preserved t c =
                 ∙ text_found r ns i x piece here c.node-item.is is (Text piece c.args.on_texts) (λ more. text_lettered r c.requires.1.1.0 piece c.args.on_texts more c.requires.1.1.1.1.0));
             cut = (cut.0, now ∙ cut_front c.loop-node.rest.now w.after-rest.result.now piece.now (joined_texts h) (joined_texts rest) cut.0 cut.1 (text_joined ns i x piece here c.node-item.is is) w.after-rest.ensures, cut.2);
             text = subst IsUtf8 (sym now) w.after-rest.utf8;
-            names = subst (AreNamed r.alphabet.now) (sym w.names-is) c.loop-node.invariant.names;
+            known = record { names = subst (AreNamed r.alphabet.now) (sym w.names-is) c.loop-node.invariant.known.names; sights = subst (AreSeenBy r) (sym w.sights-is) c.loop-node.invariant.known.sights };
           }
       | in-Elem+in_ok-below-in-Elem w ↦
           let below = w.in_ok-below-in-Elem.below in
@@ -93,7 +94,7 @@ loop-node-preserved t c =
                 ∙ elem_found r ns i x n kids here c.node-item.is is w.lettered_element-tree.result (trees below.nodes.now) (document_bare r (trees below.nodes.now) (see.trees kids.now) w.in_ok-below-in-Elem.ensures.nodes) w.lettered_element-tree.ensures.lettered);
             cut = (cut.0, now ∙ cut_front c.loop-node.rest.now below.rest.now (joined_texts (see.trees kids.now)) (joined_texts h) (joined_texts rest) cut.0 cut.1 (elem_joined ns i x n kids here c.node-item.is is) w.in_ok-below-in-Elem.ensures.rest, cut.2);
             text = subst IsUtf8 (sym now) (text_after c.loop-node.rest.now w.before_end-string.result.now below.rest.now c.loop-node.invariant.text w.before_end-string.utf8 w.before_end-string.ensures);
-            names = subst (AreNamed r.alphabet.now) (sym w.names-is) w.lettered_element-tree.ensures.names;
+            known = record { names = subst (AreNamed r.alphabet.now) (sym w.names-is) w.lettered_element-tree.ensures.known.names; sights = subst (AreSeenBy r) (sym w.sights-is) w.lettered_element-tree.ensures.known.sights };
           }
     ]
 
@@ -103,8 +104,8 @@ returns-clause-rest t c =
     let cut = c.loop-node.invariant.cut in
     cut.2 ∙ ap (λ x. joined_texts (see.trees ns) ++ x) (sym (cut.1 ∙ ap (λ xs. joined_texts (see.trees xs) ++ cut.0) (drop_all c.loop-node.node-index ns c.loop-node-test.false)))
 
-pub returns-clause-names : goal.returns-clause-names
-returns-clause-names t c = c.loop-node.invariant.names
+pub returns-clause-known : goal.returns-clause-known
+returns-clause-known t c = c.loop-node.invariant.known
 
 pub returns-clause-nodes : goal.returns-clause-nodes
 returns-clause-nodes t c =
@@ -121,11 +122,11 @@ loop-node-init t c =
       lettered = ap (λ xs. joined (trees xs) (lettered_by r (see.trees c.args.nodes.now))) c.in_ok-found.ensures.items;
       cut = (cut.0, cut.1, cut.1);
       text = search rules;
-      names = c.requires.1.1.1.1.1.0;
+      known = c.requires.1.1.1.1.1.0;
     }
 
-pub returns-in_err-found-clause-names : goal.returns-in_err-found-clause-names
-returns-in_err-found-clause-names t c = c.requires.1.1.1.1.1.0
+pub returns-in_err-found-clause-known : goal.returns-in_err-found-clause-known
+returns-in_err-found-clause-known t c = c.requires.1.1.1.1.1.0
 
 pub returns-in_err-found-clause-nodes : goal.returns-in_err-found-clause-nodes
 returns-in_err-found-clause-nodes t c = IfOk-from_err c.from_residual.result _ c.from_residual.ensures.0
@@ -145,15 +146,15 @@ returns-in_err-push-clause-nodes t c = IfOk-from_err c.from_residual-in_err-push
 pub returns-in_err-push-clause-rest : goal.returns-in_err-push-clause-rest
 returns-in_err-push-clause-rest t c = IfOk-from_err c.from_residual-in_err-push.result _ c.from_residual-in_err-push.ensures.0
 
-pub returns-in_err-below-in-Elem-clause-names : goal.returns-in_err-below-in-Elem-clause-names
-returns-in_err-below-in-Elem-clause-names t c = c.in_err-below-in-Elem.ensures.names
+pub returns-in_err-below-in-Elem-clause-known : goal.returns-in_err-below-in-Elem-clause-known
+returns-in_err-below-in-Elem-clause-known t c = c.in_err-below-in-Elem.ensures.known
 
-pub returns-in_err-push-clause-names : goal.returns-in_err-push-clause-names
-returns-in_err-push-clause-names t c =
+pub returns-in_err-push-clause-known : goal.returns-in_err-push-clause-known
+returns-in_err-push-clause-known t c =
     let r = c.args.runner.now in
     elim c.match-node.branch [
-      | in-Text w ↦ subst (AreNamed r.alphabet.now) (sym w.names-is) c.loop-node.invariant.names
-      | in-Elem+in_ok-below-in-Elem w ↦ subst (AreNamed r.alphabet.now) (sym w.names-is) w.lettered_element-tree.ensures.names
+      | in-Text w ↦ record { names = subst (AreNamed r.alphabet.now) (sym w.names-is) c.loop-node.invariant.known.names; sights = subst (AreSeenBy r) (sym w.sights-is) c.loop-node.invariant.known.sights }
+      | in-Elem+in_ok-below-in-Elem w ↦ record { names = subst (AreNamed r.alphabet.now) (sym w.names-is) w.lettered_element-tree.ensures.known.names; sights = subst (AreSeenBy r) (sym w.sights-is) w.lettered_element-tree.ensures.known.sights }
     ]
 
 pub lettered_element-tree-requires-clause-runner : goal.lettered_element-tree-requires-clause-runner

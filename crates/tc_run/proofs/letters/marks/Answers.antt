@@ -12,7 +12,7 @@ use Rattle.tc_run.proofs.letters.marks.Goals as goal
 pub overflow_mul-marks : goal.overflow_mul-marks
 overflow_mul-marks c =
     let r = c.args.runner.now in
-    let low : c.loop-number.marks < 64 = marks_low r c.requires.runner (λ p. holds_in (looking r) p (bare (trees c.args.kids.now))) c.loop-number.number c.loop-number.marks c.loop-number.invariant.1 in
+    let low : c.loop-number.marks < 64 = marks_low r c.requires.kids.runner (λ p. holds_in (looking r) p (bare (trees c.args.kids.now))) c.loop-number.number c.loop-number.marks c.loop-number.invariant.2 in
     omega (arith, low)
 
 pub is_met-requires-clause-asked : goal.is_met-requires-clause-asked
@@ -21,12 +21,12 @@ is_met-requires-clause-asked c =
     let i = c.loop-number.number - 1 in
     let x = c.index-asked-number.result in
     let t = get_or (predicates_by r) i always in
-    (t, subst (IsAskedBy r t) (sym c.index-asked-number.is) (asked_at r c.args.asked.now i x c.requires.asked (omega (arith, c.loop-number.invariant.0, c.loop-number-test.true))).1)
+    (t, subst (IsAskedBy r t) (sym c.index-asked-number.is) (asked_at r c.args.asked.now i x c.requires.asked (omega (arith, c.loop-number.invariant.1, c.loop-number-test.true))).1)
 
 pub overflow_add-marks : goal.overflow_add-marks
 overflow_add-marks c =
     let r = c.args.runner.now in
-    let low : c.loop-number.marks < 64 = marks_low r c.requires.runner (λ p. holds_in (looking r) p (bare (trees c.args.kids.now))) c.loop-number.number c.loop-number.marks c.loop-number.invariant.1 in
+    let low : c.loop-number.marks < 64 = marks_low r c.requires.kids.runner (λ p. holds_in (looking r) p (bare (trees c.args.kids.now))) c.loop-number.number c.loop-number.marks c.loop-number.invariant.2 in
     omega (arith, low, bit_low c.is_met.result, c.from.ensures)
 
 pub loop-number-preserved : goal.loop-number-preserved
@@ -35,14 +35,12 @@ loop-number-preserved c =
     let i = c.loop-number.number - 1 in
     let x = c.index-asked-number.result in
     let t = get_or (predicates_by r) i always in
-    let there = asked_at r c.args.asked.now i x c.requires.asked (omega (arith, c.loop-number.invariant.0, c.loop-number-test.true)) in (
-      omega (arith, c.loop-number.invariant.0),
+    let there = asked_at r c.args.asked.now i x c.requires.asked (omega (arith, c.loop-number.invariant.1, c.loop-number-test.true)) in (
+      c.is_met.ensures.known,
+      omega (arith, c.loop-number.invariant.1),
       mark_more (λ p. holds_in (looking r) p (bare (trees c.args.kids.now))) (predicates_by r) c.loop-number.number t c.is_met.result c.loop-number.marks c.from.result
-          c.loop-number-test.true there.0 (c.is_met.ensures t (subst (IsAskedBy r t) (sym c.index-asked-number.is) there.1)) c.from.ensures c.loop-number.invariant.1,
+          c.loop-number-test.true there.0 (c.is_met.ensures.met t (subst (IsAskedBy r t) (sym c.index-asked-number.is) there.1)) c.from.ensures c.loop-number.invariant.2,
     )
 
-pub is_met-requires-clause-runner : goal.is_met-requires-clause-runner
-is_met-requires-clause-runner c = c.requires.runner
-
 pub is_met-requires-clause-kids : goal.is_met-requires-clause-kids
-is_met-requires-clause-kids c = c.requires.kids
+is_met-requires-clause-kids c = record { runner = c.requires.kids.runner; nodes = c.requires.kids.nodes; known = c.loop-number.invariant.0 }

@@ -7,6 +7,6 @@ use Rattle.tc_run.proofs.predicates.is_met.Goals as goal
 pub first_hit-requires-clause-state : goal.first_hit-requires-clause-state
 first_hit-requires-clause-state c = look_asked c.args.runner.now c.args.asked c.in-Look.look c.requires.asked.0 c.in-Look.is c.requires.asked.1
 
-pub returns-in-Look : goal.returns-in-Look
-returns-in-Look c = λ t is.
-    c.is_some.ensures ∙ look_found c.args.runner.now c.args.asked c.in-Look.look t (bare (trees c.args.kids.now)) c.first_hit.result c.in-Look.is is c.first_hit.ensures
+pub returns-in-Look-clause-met : goal.returns-in-Look-clause-met
+returns-in-Look-clause-met c = λ t is.
+    c.is_some.ensures ∙ look_found c.args.runner.now c.args.asked c.in-Look.look t (bare (trees c.args.kids.now)) c.first_hit.result c.in-Look.is is c.first_hit.ensures.answer

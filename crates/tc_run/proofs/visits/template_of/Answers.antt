@@ -5,7 +5,7 @@ use Rattle.tc_rules.specs.States.{Chosen, plain_of}
 use Rattle.tc_run.specs.Running.{sheet_by}
 use Rattle.tc_run.specs.Tasks.{built_in}
 use Rattle.tc_run.proofs.Templates.{no_rule, found_low, found_number, rule_got, rule_part_at, rule_meant}
-use Rattle.tc_run.proofs.bodies.template_of.Goals as goal
+use Rattle.tc_run.proofs.visits.template_of.Goals as goal
 
 -- where no rule fits, the built-in body is meant
 none_meant : (bodies : List CallFreeBody) (p : CallFreeBody) (o : Option Chosen) → option_map (λ w. w.number) o ≡ None → plain_of bodies p o ≡ p

@@ -1,0 +1,31 @@
+use Rattle.std.proofs.Common.{◌≡◌, ℕ, Option, None, Some, Result, Ok, Err, replicate, All, IfOk, IfSome, refl, sym, subst, rules}
+use Rattle.std.specs.Result.{IsErrAnd}
+use Rattle.std.proofs.lemmas.List.Elements.{All-replicate}
+use Rattle.tc_run.specs.Sights.{AreSeenBy}
+use Rattle.tc_run.specs.Visits.{AreFoundBy, IsKnown}
+use Rattle.tc_run.specs.declared.runner.Runner.{Runner}
+use Rattle.tc_run.specs.declared.visits.Known.{Known}
+use Rattle.tc_run.specs.declared.visits.KnownNodes.{KnownNodes}
+use Rattle.tc_run.proofs.visits.KnownNodes.new.Goals as goal
+
+-- what can't be remembered is nothing
+nothing_else : (IsOne : Option Known → Type 0) → ((k : Known) → IsOne (Some k) → ⊥) → (o : Option Known) → IsOne o → o ≡ None
+nothing_else IsOne none None is = refl
+nothing_else IsOne none (Some k) is = absurd (none k is)
+
+none_known : (n : ℕ) (k : KnownNodes) → k.places.items ≡ replicate n None → ((r : Runner) → AreSeenBy r k.sights) → (r : Runner) → AreFoundBy r k
+none_known n k same seen r = record { sights = seen r; found = subst (All (λ (o : Option Known). IfSome o (IsKnown r))) (sym same) (All-replicate (λ (o : Option Known). IfSome o (IsKnown r)) n None (search rules)) }
+
+pub returns : goal.returns
+returns c = none_known 2048 _ (c.in_ok-places.ensures.items_if_clones_equal (nothing_else _ (λ k e. e))) c.in_ok-sights.ensures
+
+-- what fails has no value
+failed : {T E : Type 0} (r : Result T E) (P : T → Type 0) (Q : E → Type 0) → IsErrAnd r Q → IfOk r P
+failed (Ok v) P Q h = absurd h
+failed (Err e) P Q h = tt
+
+pub returns-in_err-places : goal.returns-in_err-places
+returns-in_err-places c = failed c.from_residual.result _ _ c.from_residual.ensures.1
+
+pub returns-in_err-sights : goal.returns-in_err-sights
+returns-in_err-sights c = failed c.from_residual-in_err-sights.result _ _ c.from_residual-in_err-sights.ensures.1
