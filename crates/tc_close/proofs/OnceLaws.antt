@@ -5,9 +5,10 @@ use Rattle.tc_rows.specs.Triples.{Triple}
 use Rattle.tc_beh.specs.AlikeSymbols.{AreFirstAlike, IsFirstAlike}
 use Rattle.tc_beh.proofs.AlikeLaws.{alike_alike}
 use Rattle.tc_settle.specs.Held.{Held, Grows, IsHeldAs, IsUnchanged, IsWrapAt}
-use Rattle.tc_close.specs.declared.wraps.Wraps.{Wraps}
+use Rattle.tc_settle.specs.declared.wraps.Wraps.{Wraps}
 use Rattle.tc_close.specs.RowState.{RowState, hedge_at, tree_at, held_of}
-use Rattle.tc_close.specs.Once.{IsKnown, IsWrapTold, AreKnown, AreOnce}
+use Rattle.tc_settle.specs.Wraps.{IsKnown, IsWrapTold}
+use Rattle.tc_close.specs.Once.{AreKnown, AreOnce}
 
 -- nothing is known yet
 pub none_known : (s : Held) (w : Wraps) → w.made.items ≡ [] → AreKnown s w

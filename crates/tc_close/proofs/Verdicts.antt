@@ -16,16 +16,12 @@ use Rattle.tc_close.proofs.Decided.{keeps_counts, are_counts, is_safe, shown, no
 use Rattle.tc_close.proofs.Made.{tree_is}
 
 -- the first row that fails, where the same rows are held
-pub record FirstFails (b : Held) (k : ℕ) : Type 0 where
-  pub low : k < b.trees
-  pub fails : b.fails k
-  pub passed : (t : ℕ) → t < k → b.passes t
-
-pub first_on : (a b : Held) (c : Closed) (k : ℕ) → SameRows a b → IsFirstFailing a c k → FirstFails b k
+pub first_on : (a b : Held) (c : Closed) (k : ℕ) → SameRows a b → IsFirstFailing a c k → IsFirstFailing b c k
 first_on a b c k (g, h) first = record {
-  low = let l = first.held in let m = g.trees in omega (arith, l, m);
+  held = omega (arith, first.held, g.trees);
   fails = g.fails k first.held first.fails;
-  passed = λ t l. g.passes t (let m = first.held in omega (arith, l, m)) (first.passed t l);
+  passed = λ t l. g.passes t (omega (arith, l, first.held)) (first.passed t l);
+  least = λ t l f. first.least t (omega (arith, l, h.trees)) (h.fails t l f);
 }
 
 module _ (x : Triple) (s : RowState) (IsOf : Triple → Type 0) (is : IsOf x) (known : Known IsOf s) (c : Closed) (closure : IsClosure (held_of IsOf s) c) (most : ℕ) where

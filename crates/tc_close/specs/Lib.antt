@@ -3,6 +3,7 @@ pub mod Verdict
 pub mod Triples
 pub mod Decisions
 pub mod RowState
+pub mod Settling
 pub mod HeldRows
 pub mod PairTables
 pub mod Kinds

@@ -9,6 +9,10 @@ use Rattle.tc_rows.specs.Counts.{AreDifferent}
 abbrev pub lines_at : List (List ℕ) → List ℕ → List (List ℕ)
 lines_at lines places = map (λ p. get_or lines p []) places
 
+-- numbers below a count, no more than a number counts
+abbrev pub AreBelow : ℕ → List ℕ → Type 0
+AreBelow count numbers = All (λ n. n < count) numbers × (length numbers ≤ 4294967295)
+
 -- all places, in the order of their lines
 pub record IsOrder (lines : List (List ℕ)) (places : List ℕ) : Type 0 where
   pub count : length places ≡ length lines

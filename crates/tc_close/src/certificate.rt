@@ -8,11 +8,10 @@ ghost use Rattle.tc_cert.specs.Texts.{output_text};
 ghost use Rattle.tc_close.specs.Certified.{IsLeastCertificate, IsTooLong};
 ghost use Rattle.tc_close.specs.Lines as held;
 ghost use Rattle.tc_close.specs.Lines.{sets_at, tree_ranked, hedge_ranked, AreTreesInOrder, AreHedgesInOrder, IsDataBy};
-ghost use Rattle.tc_close.specs.Orders.{IsOrder, AreRanks};
-ghost use Rattle.tc_close.specs.RowState.{held_of};
+ghost use Rattle.tc_close.specs.Orders.{AreBelow, IsOrder};
+ghost use Rattle.tc_close.specs.Settling.{AreAll};
 ghost use Rattle.tc_model.specs.CertificateLines as lines;
 ghost use Rattle.tc_rows.specs.Triples.{Triple};
-ghost use Rattle.tc_settle.specs.Derived.{IsClosed, AllDerive};
 
 use crate::held::HeldRows;
 use crate::order::{PlacedLines, ranked, ranks_of};
@@ -169,8 +168,7 @@ fn tree_order<K: Over>(
     ensures same { rows.new ≡ rows.old }
     ensures order { IfOk result (λ numbers. (x : Triple) → K.is_of x
         → IsOrder (held.tree_lines x rows.old ranks.now) numbers.items) }
-    ensures within { IfOk result (λ numbers. All (λ n. n < length rows.old.trees) numbers.items) }
-    ensures few { IfOk result (λ numbers. length numbers.items ≤ 4294967295) }
+    ensures numbers { IfOk result (λ numbers. AreBelow (length rows.old.trees) numbers.items) }
 {
     let mut all = PlacedLines::new(alloc);
     for place in 0..rows.tree_count() {
@@ -190,8 +188,7 @@ fn hedge_order<K: Over>(
     ensures same { rows.new ≡ rows.old }
     ensures order { IfOk result (λ numbers. (x : Triple) → K.is_of x
         → IsOrder (held.hedge_lines x rows.old ranks.now) numbers.items) }
-    ensures within { IfOk result (λ numbers. All (λ n. n < length rows.old.hedges) numbers.items) }
-    ensures few { IfOk result (λ numbers. length numbers.items ≤ 4294967295) }
+    ensures numbers { IfOk result (λ numbers. AreBelow (length rows.old.hedges) numbers.items) }
 {
     let mut all = PlacedLines::new(alloc);
     for place in 0..rows.hedge_count() {
@@ -209,8 +206,7 @@ fn trees_at<K: Over>(
     numbers: &[u32],
 ) -> Result<TreeLines, NoMemory>
     requires ranks { length ranks.now ≡ length rows.old.outputs.matrices }
-    requires within { All (λ n. n < length rows.old.trees) numbers.now }
-    requires few { length numbers.now ≤ 4294967295 }
+    requires numbers { AreBelow (length rows.old.trees) numbers.now }
     ensures same { rows.new ≡ rows.old }
     ensures trees { IfOk result (λ trees. (x : Triple) → K.is_of x → trees
         ≡ map (tree_ranked x rows.old ranks.now) numbers.now) }
@@ -231,8 +227,7 @@ fn hedges_at<K: Over>(
     numbers: &[u32],
 ) -> Result<HedgeLines, NoMemory>
     requires ranks { length ranks.now ≡ length rows.old.outputs.matrices }
-    requires within { All (λ n. n < length rows.old.hedges) numbers.now }
-    requires few { length numbers.now ≤ 4294967295 }
+    requires numbers { AreBelow (length rows.old.hedges) numbers.now }
     ensures same { rows.new ≡ rows.old }
     ensures hedges { IfOk result (λ hedges. (x : Triple) → K.is_of x → hedges
         ≡ map (hedge_ranked x rows.old ranks.now) numbers.now) }
@@ -302,11 +297,8 @@ pub(crate) fn cert_data<K: Over>(
     alloc: Global,
     rows: &mut HeldRows<'_, '_, K>,
 ) -> Result<Option<CertData>, NoMemory>
-    requires closed { IsClosed (held_of K.is_of rows.old) }
-    requires derive { AllDerive (held_of K.is_of rows.old) }
+    requires all { AreAll K.is_of rows.old }
     requires whole { rows.old.is_whole ≡ true }
-    requires trees { length rows.old.trees ≤ 4000 }
-    requires hedges { length rows.old.hedges ≤ 4000 }
     ensures same { rows.new ≡ rows.old }
     ensures data { IfOk result
         (λ o. (x : Triple) → K.is_of x → MatchOption o (IsTooLong x) (IsLeastCertificate x)) }

@@ -2,12 +2,13 @@
 // Closure, verdict and tree are one public call, and not a value that later calls take, since each of them
 // would have to ask that the rows are still those of the closure. What a certificate needs is a second call
 // beside it (`prove`).
-ghost use Rattle.std.specs.Prelude.{◌≡◌, ◌<◌, ◌≤◌, ℕ, [], IfOk, IfErr};
+ghost use Rattle.std.specs.Prelude.{◌≡◌, ◌≤◌, IfOk, IfErr};
 ghost use Rattle.tc_beh.specs.Machines.{IsMachine, IsMachineOf};
 ghost use Rattle.tc_close.specs.Decisions.{IsDecided, IsCloseCause, KeepsCounts};
 ghost use Rattle.tc_close.specs.RowState.{held_of, IsFull};
 ghost use Rattle.tc_rows.specs.Triples.{Triple};
-ghost use Rattle.tc_settle.specs.Closed.{IsClosure, IsCause};
+ghost use Rattle.tc_close.specs.Settling.{AreOver, IsSettled, IsStart};
+ghost use Rattle.tc_settle.specs.Closed.{IsClosure, IsCause, IsFirstFailing};
 ghost use Rattle.tc_settle.specs.Held.{SameRows};
 
 use crate::held::HeldRows;
@@ -90,12 +91,9 @@ fn verdict_of_failing<'b, K: Over>(
     tree: u32,
     most: u32,
 ) -> Result<Decision<'b>, NoMemory>
-    requires alphabet { (x : Triple) → K.is_of x → alphabet.now ≡ x.symbols }
+    requires triples { (x : Triple) → K.is_of x → (alphabet.now ≡ x.symbols) × KeepsCounts x most }
     requires closure { IsClosure (held_of K.is_of rows.now) closed.now }
-    requires keeps { (x : Triple) → K.is_of x → KeepsCounts x most }
-    requires low { tree < (held_of K.is_of rows.now).trees }
-    requires fails { (held_of K.is_of rows.now).fails tree }
-    requires passed { (t : ℕ) → t < tree → (held_of K.is_of rows.now).passes t }
+    requires first { IsFirstFailing (held_of K.is_of rows.now) closed.now tree }
     ensures { IfOk result (λ d. (x : Triple) → K.is_of x → IsDecided x most d) }
 {
     let _outputs = rows.output_count();
@@ -115,9 +113,7 @@ pub(crate) fn verdict<'b, K: Over>(
     most: u32,
 ) -> Result<Decision<'b>, NoMemory>
     requires alphabet { (x : Triple) → K.is_of x → alphabet.now ≡ x.symbols }
-    requires closure { IsClosure (held_of K.is_of rows.old) closed.now }
-    requires trees { (held_of K.is_of rows.old).trees ≤ most }
-    requires hedges { (held_of K.is_of rows.old).hedges ≤ most }
+    requires settled { IsSettled K.is_of rows.old closed.now most }
     ensures decision { IfOk result (λ d. (x : Triple) → K.is_of x → IsDecided x most d) }
     ensures same { SameRows (held_of K.is_of rows.old) (held_of K.is_of rows.new) }
 {
@@ -141,12 +137,8 @@ pub(crate) fn settle<K: Over>(
     once: &mut OnceRows<'_, '_, K>,
     most: u32,
 ) -> Result<Closed, CloseFault>
-    requires hedges { once.old.hedges ≡ [] }
-    requires trees { once.old.trees ≡ [] }
-    requires most { most ≤ 4000 }
-    ensures closure { IfOk result (λ closed. IsClosure (held_of K.is_of once.new) closed) }
-    ensures few { IfOk result (λ closed. ((held_of K.is_of once.new).trees ≤ most)
-        × ((held_of K.is_of once.new).hedges ≤ most)) }
+    requires { IsStart once.old most }
+    ensures settled { IfOk result (λ closed. IsSettled K.is_of once.new closed most) }
     ensures cause { IfErr result (λ e. (x : Triple) → K.is_of x → IsCloseCause x most e) }
 {
     match close(alloc, once, most) {
@@ -164,9 +156,7 @@ fn decided<'b, K: Over>(
     most: u32,
 ) -> Result<Decision<'b>, CloseFault>
     requires machine { (x : Triple) → K.is_of x → IsMachineOf x machine.now }
-    requires hedges { once.old.hedges ≡ [] }
-    requires trees { once.old.trees ≡ [] }
-    requires most { most ≤ 4000 }
+    requires start { IsStart once.old most }
     ensures decision { IfOk result (λ d. (x : Triple) → K.is_of x → IsDecided x most d) }
     ensures cause { IfErr result (λ e. (x : Triple) → K.is_of x → IsCloseCause x most e) }
 {
@@ -182,8 +172,7 @@ fn decide_over<'b, K: Over>(
     machine: &Machine<'b>,
     most: u32,
 ) -> Result<Decision<'b>, CloseFault>
-    requires some { (x : Triple) × K.is_of x }
-    requires machine { (x : Triple) → K.is_of x → IsMachineOf x machine.now }
+    requires over { AreOver K.is_of machine.now }
     requires most { most ≤ 4000 }
     ensures decision { IfOk result (λ d. (x : Triple) → K.is_of x → IsDecided x most d) }
     ensures cause { IfErr result (λ e. (x : Triple) → K.is_of x → IsCloseCause x most e) }

@@ -15,7 +15,6 @@ mod over;
 mod pair_table;
 mod proof;
 mod rooms;
-mod wraps;
 
 pub use decision::{CloseFault, Counts, Decision, decide};
 pub use proof::{Proof, prove};

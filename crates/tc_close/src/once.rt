@@ -3,12 +3,11 @@
 // tried last, so that rows come on in the same order.
 use crate::held::HeldRows;
 use crate::over::Over;
-use crate::wraps::Wraps;
 use std::alloc::Global;
 use std::marker::Model;
 use tc_base::NoMemory;
 use tc_beh::{Alike, Machine};
-use tc_settle::{HoldFault, NumberedRows};
+use tc_settle::{HoldFault, NumberedRows, Wraps};
 
 /// Rows over a machine. Around a list of trees one element for each kind of symbols is worked out, if they are tried in order.
 #[derive(Drop)]
@@ -34,7 +33,7 @@ impl<'m, 'b, K: Over> Model for OnceRows<'m, 'b, K> {
 impl<'m, 'b, K: Over> OnceRows<'m, 'b, K> {
     ghost use Rattle.std.specs.Prelude.{◌≡◌, ◌<◌, [], length, IfErr, IfOk, MatchOption, OnErr};
     ghost use Rattle.tc_beh.specs.Machines.{IsMachineOf};
-    ghost use Rattle.tc_close.specs.Once.{IsWrapTold};
+    ghost use Rattle.tc_settle.specs.Wraps.{IsWrapTold};
     ghost use Rattle.tc_close.specs.RowState.{held_of, IsFull};
     ghost use Rattle.tc_rows.specs.Triples.{Triple};
     ghost use Rattle.tc_settle.specs.Held.{Grows, IsHeldAs, IsUnchanged, IsWrapAt};

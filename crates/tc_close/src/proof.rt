@@ -1,11 +1,11 @@
 // Whether a stylesheet is safe between two schemas, with a certificate where it is, and a least counterexample where it isn't.
-ghost use Rattle.std.specs.Prelude.{◌≡◌, ◌≤◌, [], IfOk, IfErr, MatchOption, length};
+ghost use Rattle.std.specs.Prelude.{◌≡◌, ◌≤◌, IfOk, IfErr, MatchOption};
 ghost use Rattle.tc_beh.specs.Machines.{IsMachine, IsMachineOf};
 ghost use Rattle.tc_close.specs.Certified.{IsProved, IsLeastCertificate, IsTooLong};
 ghost use Rattle.tc_close.specs.Decisions.{IsCloseCause};
 ghost use Rattle.tc_close.specs.RowState.{held_of};
 ghost use Rattle.tc_rows.specs.Triples.{Triple};
-ghost use Rattle.tc_settle.specs.Closed.{IsClosure};
+ghost use Rattle.tc_close.specs.Settling.{AreOver, IsSettled, IsStart};
 ghost use Rattle.tc_settle.specs.Held.{SameRows};
 
 use crate::certificate::cert_data;
@@ -40,9 +40,7 @@ fn certified<'b, K: Over>(
     rows: &mut HeldRows<'_, 'b, K>,
     closed: &Closed,
 ) -> Result<Option<CertData>, NoMemory>
-    requires closure { IsClosure (held_of K.is_of rows.old) closed.now }
-    requires trees { (held_of K.is_of rows.old).trees ≤ 4000 }
-    requires hedges { (held_of K.is_of rows.old).hedges ≤ 4000 }
+    requires { IsSettled K.is_of rows.old closed.now 4000 }
     ensures same { rows.new ≡ rows.old }
     ensures data { IfOk result
         (λ o. (x : Triple) → K.is_of x → MatchOption o (IsTooLong x) (IsLeastCertificate x)) }
@@ -63,10 +61,7 @@ fn told<'b, K: Over>(
     most: u32,
 ) -> Result<Proof<'b>, NoMemory>
     requires machine { (x : Triple) → K.is_of x → IsMachineOf x machine.now }
-    requires closure { IsClosure (held_of K.is_of rows.old) closed.now }
-    requires trees { (held_of K.is_of rows.old).trees ≤ most }
-    requires hedges { (held_of K.is_of rows.old).hedges ≤ most }
-    requires most { most ≤ 4000 }
+    requires settled { IsSettled K.is_of rows.old closed.now most }
     ensures same { SameRows (held_of K.is_of rows.old) (held_of K.is_of rows.new) }
     ensures proof { IfOk result (λ p. (x : Triple) → K.is_of x → IsProved x most p) }
 {
@@ -91,9 +86,7 @@ fn proved<'b, K: Over>(
     most: u32,
 ) -> Result<Proof<'b>, CloseFault>
     requires machine { (x : Triple) → K.is_of x → IsMachineOf x machine.now }
-    requires hedges { once.old.hedges ≡ [] }
-    requires trees { once.old.trees ≡ [] }
-    requires most { most ≤ 4000 }
+    requires start { IsStart once.old most }
     ensures proof { IfOk result (λ p. (x : Triple) → K.is_of x → IsProved x most p) }
     ensures cause { IfErr result (λ e. (x : Triple) → K.is_of x → IsCloseCause x most e) }
 {
@@ -109,8 +102,7 @@ fn prove_over<'b, K: Over>(
     machine: &Machine<'b>,
     most: u32,
 ) -> Result<Proof<'b>, CloseFault>
-    requires some { (x : Triple) × K.is_of x }
-    requires machine { (x : Triple) → K.is_of x → IsMachineOf x machine.now }
+    requires over { AreOver K.is_of machine.now }
     requires most { most ≤ 4000 }
     ensures proof { IfOk result (λ p. (x : Triple) → K.is_of x → IsProved x most p) }
     ensures cause { IfErr result (λ e. (x : Triple) → K.is_of x → IsCloseCause x most e) }

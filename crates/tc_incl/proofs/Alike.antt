@@ -7,14 +7,15 @@ use Rattle.tc_sets.specs.Numbers.{Numbers}
 use Rattle.tc_settle.specs.Held.{Held, Grows, IsHeldAs, IsUnchanged, IsWrapAt}
 use Rattle.tc_incl.specs.declared.rows.Row.{Row}
 use Rattle.tc_incl.specs.declared.both.Both.{Both}
-use Rattle.tc_incl.specs.declared.wraps.Wraps.{Wraps}
+use Rattle.tc_settle.specs.declared.wraps.Wraps.{Wraps}
 use Rattle.tc_incl.specs.Schemas.{Schemas}
 use Rattle.tc_incl.specs.Rows.{HedgeRow, TreeRow}
 use Rattle.tc_incl.specs.Arithmetic.{IsPatternAround, AreAround, IsWrap, IsLiveWrap}
 use Rattle.tc_incl.specs.Held.{AreTold}
 use Rattle.tc_incl.specs.Sides.{AreAllowed}
 use Rattle.tc_incl.specs.Alike.{AreInSameClasses, AreAlike, AlikeWrapAlike, IsCopyAt, HaveSameAt, AreKinds}
-use Rattle.tc_incl.specs.Wraps.{IsKnown, IsWrapTold, AreKnown}
+use Rattle.tc_settle.specs.Wraps.{IsKnown, IsWrapTold}
+use Rattle.tc_incl.specs.Wraps.{AreKnown}
 use Rattle.tc_incl.specs.Covers.{State, hedge_at, tree_at, held_of}
 use Rattle.tc_incl.proofs.Taken.{pushed_at}
 use Rattle.tc_incl.proofs.Stepped.{front, some_at}

@@ -5,6 +5,7 @@ pub mod Derivations
 pub mod Counts
 pub mod Laws
 pub mod Sets
+pub mod Settling
 pub mod Sides
 pub mod Alike
 pub mod Held

@@ -7,14 +7,13 @@ use crate::both::Both;
 use crate::over::Over;
 use crate::rows::{Row, hold};
 use crate::steps::BothSteps;
-use crate::wraps::Wraps;
 use indexmap::IndexSet;
 use std::alloc::Global;
 use std::marker::{Model, PhantomData};
 use tc_alpha::Alphabet;
 use tc_auto::Auto;
 use tc_base::NoMemory;
-use tc_settle::{HoldFault, NumberedRows};
+use tc_settle::{HoldFault, NumberedRows, Wraps};
 
 /// Cover rows of two schemas, each held once and known by its number.
 #[derive(Drop)]
@@ -70,7 +69,7 @@ impl<'c, 'g, K: Over> Covers<'c, 'g, K> {
     ghost use Rattle.std.specs.Prelude.{◌≡◌, ◌<◌, ◌≤◌, [], length, IfOk, MatchBool, MatchOption, OnErr};
     ghost use Rattle.tc_incl.specs.Covers.{AreOf, Known, held_of};
     ghost use Rattle.tc_incl.specs.Schemas.{Schemas};
-    ghost use Rattle.tc_incl.specs.Wraps.{IsWrapTold};
+    ghost use Rattle.tc_settle.specs.Wraps.{IsWrapTold};
     ghost use Rattle.tc_settle.specs.Held.{Grows, IsHeldAs, IsUnchanged, IsWrapAt};
 
     /// No rows.

@@ -1,8 +1,9 @@
 // Whether one schema is included in another, and a least difference where it isn't.
-ghost use Rattle.std.specs.Prelude.{◌≡◌, ◌<◌, ◌≤◌, [], IfOk, IfErr, MatchOption};
+ghost use Rattle.std.specs.Prelude.{◌≡◌, ◌<◌, ◌≤◌, IfOk, IfErr, MatchOption};
 ghost use Rattle.tc_incl.specs.Answers.{IsAnswer, IsCause};
 ghost use Rattle.tc_incl.specs.Covers.{AreOf, IsFirstFailing, PassBefore, held_of};
 ghost use Rattle.tc_incl.specs.Schemas.{Schemas};
+ghost use Rattle.tc_incl.specs.Settling.{AreOver, IsSettled, IsStart};
 ghost use Rattle.tc_settle.specs.Closed as settled;
 
 use crate::covers::Covers;
@@ -85,11 +86,8 @@ fn verdict<'b, K: Over>(
     closed: &Closed,
     most: u32,
 ) -> Result<Cover<'b>, InclFault>
-    requires few { most < 4294967295 }
     requires alphabet { (x : Schemas) → K.is_of x → alphabet.now ≡ x.symbols }
-    requires closure { settled.IsClosure (held_of K.is_of covers.now) closed.now }
-    requires trees { (held_of K.is_of covers.now).trees ≤ most }
-    requires hedges { (held_of K.is_of covers.now).hedges ≤ most }
+    requires settled { IsSettled K.is_of covers.now closed.now most }
     ensures answer { IfOk result (λ c. (x : Schemas) → K.is_of x → IsAnswer x most c) }
     ensures cause { IfErr result (λ e. (x : Schemas) → K.is_of x → IsCause x most e) }
 {
@@ -115,9 +113,7 @@ fn answered<'b, K: Over>(
     most: u32,
 ) -> Result<Cover<'b>, InclFault>
     requires alphabet { (x : Schemas) → K.is_of x → alphabet.now ≡ x.symbols }
-    requires hedges { covers.old.hedges ≡ [] }
-    requires trees { covers.old.trees ≡ [] }
-    requires most { most < 4294967295 }
+    requires start { IsStart covers.old most }
     ensures answer { IfOk result (λ c. (x : Schemas) → K.is_of x → IsAnswer x most c) }
     ensures cause { IfErr result (λ e. (x : Schemas) → K.is_of x → IsCause x most e) }
 {
@@ -136,8 +132,7 @@ fn included_over<'b, K: Over>(
     alphabet: &Alphabet,
     most: u32,
 ) -> Result<Cover<'b>, InclFault>
-    requires some { (x : Schemas) × K.is_of x }
-    requires schemas { (x : Schemas) → K.is_of x → AreOf first.now second.now alphabet.now x }
+    requires over { AreOver K.is_of first.now second.now alphabet.now }
     requires most { most < 4294967295 }
     ensures answer { IfOk result (λ c. (x : Schemas) → K.is_of x → IsAnswer x most c) }
     ensures cause { IfErr result (λ e. (x : Schemas) → K.is_of x → IsCause x most e) }

@@ -13,6 +13,5 @@ mod over;
 mod rows;
 mod sides;
 mod steps;
-mod wraps;
 
 pub use inclusion::{Cover, InclFault, included};

@@ -55,13 +55,16 @@ starts_pushed s c xs ys are low e j within = by (below_or_last j (length xs) (le
         let same = last_of xs ys s.trees j e end in
         (omega (arith, same), λ t last from. absurd (omega (arith, same, from, last)), λ t last to. omega (arith, low t last, end))
 
-module _ (most cost wrapped : ℕ) (s r : Held) (c d : Closed) (starts pushed : List ℕ) (ready : IsReady most cost s c starts wrapped) (some : 1 ≤ cost) (steps : Steps most cost s c r d) (same : r.hedges ≡ s.hedges) (e : pushed ≡ starts ++ r.trees ∷ []) where
+module _ (most cost wrapped : ℕ) (s r : Held) (c d : Closed) (starts pushed : List ℕ) (ready : IsReady most cost s c starts wrapped) (steps : Steps most cost s c r d) (same : r.hedges ≡ s.hedges) (e : pushed ≡ starts ++ r.trees ∷ []) where
+  some : 1 ≤ cost
+  some = let (u, (low, is), e) = ready.done.none in omega (arith, ready.hedges u low)
+
   pub ready_lower : (h : ℕ) → h < s.hedges → hedge_cost d h < cost
   ready_lower h low = omega (arith, ready.hedges h low, steps.goes.hedge_costs h low)
 
   pub ready_starts : AreStarts r d pushed
   ready_starts =
-      starts_pushed r d starts pushed (starts_stay cost s r c d steps.goes starts (inr (omega (arith, ready.count))) ready.begun) (λ t last. omega (arith, steps.up_to.trees t last, ready.count)) e
+      starts_pushed r d starts pushed (starts_stay cost s r c d steps.goes starts (inr (omega (arith, ready.count))) ready.begun) (λ t last. omega (arith, steps.at.up_to.trees t last, ready.count)) e
 
   pub ready_count : length pushed ≡ cost + 2
   ready_count = omega (arith, longer starts pushed r.trees e, ready.count)
@@ -101,10 +104,10 @@ module _ (most cost wrapped : ℕ) (s r : Held) (c d : Closed) (starts pushed : 
 
     pub ready_next : IsReady most (cost + 1) q f pushed s.hedges
     ready_next = record {
-      kept = more.kept;
-      few = more.few;
-      hedges = λ h low. omega (arith, more.up_to.hedges h low);
-      trees = λ t last. (tree_some t last, omega (arith, more.up_to.trees t last));
+      kept = more.at.kept;
+      few = more.at.few;
+      hedges = λ h low. omega (arith, more.at.up_to.hedges h low);
+      trees = λ t last. (tree_some t last, omega (arith, more.at.up_to.trees t last));
       done = record { none = below.none; text = below.text; wraps = wraps_done; appends = appends_done };
       within = omega (arith, same, more.goes.grows.hedges);
       before = λ h low. omega (arith, ready_lower h low, more.goes.hedge_costs h (omega (arith, low, same)));

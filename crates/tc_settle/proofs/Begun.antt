@@ -5,12 +5,12 @@ use Rattle.tc_settle.specs.declared.closed.MadeHedge.TheVariants as hedge
 use Rattle.tc_settle.specs.Held.{Held, Grows, IsNoneAt, IsHeldAs}
 use Rattle.tc_settle.specs.Derived.{from_none}
 use Rattle.tc_settle.specs.Closed.{hedge_cost, tree_cost, IsKept}
-use Rattle.tc_settle.specs.Settled.{Steps, AreUpTo, AreStarts, IsNoneDone, IsTextDone, IsWithHedge, IsReady, IsBegun}
+use Rattle.tc_settle.specs.Settled.{AreUpTo, AreStarts, HoldsNothing, IsAt, IsNoneDone, IsNoneKept, IsTextDone, IsWithHedge, IsReady, IsBegun, TreesTried}
 use Rattle.tc_settle.proofs.Kept.{kept_hedge, new_hedge_cost}
 use Rattle.tc_settle.proofs.Going.{none_done_stays}
 
-pub kept_nothing : (s : Held) (c : Closed) → s.trees ≡ 0 → s.hedges ≡ 0 → c.hedges.items ≡ [] → c.hedge_costs.items ≡ [] → c.trees.items ≡ [] → c.tree_costs.items ≡ [] → IsKept s c
-kept_nothing s c trees hedges a b d e = record {
+pub kept_nothing : (s : Held) (c : Closed) → HoldsNothing s → c.hedges.items ≡ [] → c.hedge_costs.items ≡ [] → c.trees.items ≡ [] → c.tree_costs.items ≡ [] → IsKept s c
+kept_nothing s c (trees, hedges) a b d e = record {
   hedge_count = ap length b ∙ sym hedges;
   tree_count = ap length e ∙ sym trees;
   made_hedge_count = ap length a ∙ sym hedges;
@@ -23,12 +23,12 @@ kept_nothing s c trees hedges a b d e = record {
   trees_in_order = λ i j l low. absurd (omega (arith, low, trees));
 }
 
-module _ (s r : Held) (c d : Closed) (g : Grows s r) (no_trees : s.trees ≡ 0) (no_hedges : s.hedges ≡ 0) (kept : IsKept s c) (trees : r.trees ≡ s.trees) (u : ℕ) (at : IsNoneAt r u) (is : IsHeldAs s.hedges r.hedges u) (with : IsWithHedge c hedge.None 0 d) where
+module _ (s r : Held) (c d : Closed) (g : Grows s r) (nothing : HoldsNothing s) (kept : IsKept s c) (trees : r.trees ≡ s.trees) (u : ℕ) (at : IsNoneAt r u) (is : IsHeldAs s.hedges r.hedges u) (with : IsWithHedge c hedge.None 0 d) where
   first : (u ≡ s.hedges) × (r.hedges ≡ suc s.hedges)
   first = by is
     where
       by : IsHeldAs s.hedges r.hedges u → (u ≡ s.hedges) × (r.hedges ≡ suc s.hedges)
-      by (inl (low, e)) = absurd (omega (arith, low, no_hedges))
+      by (inl (low, e)) = absurd (omega (arith, low, nothing.1))
       by (inr new) = new
 
   here : IsNoneAt r s.hedges
@@ -36,19 +36,28 @@ module _ (s r : Held) (c d : Closed) (g : Grows s r) (no_trees : s.trees ≡ 0) 
 
   pub begun_kept : IsKept r d
   begun_kept =
-      kept_hedge s r c d g 0 hedge.None kept trees first.1 with 0 (from_none here) (inl (omega arith, refl)) (here, new_hedge_cost s r c d g 0 hedge.None kept trees first.1 with) (λ k low. absurd (omega (arith, low, no_hedges)))
+      kept_hedge s r c d g 0 hedge.None kept trees first.1 with 0 (from_none here) (inl (omega arith, refl)) (here, new_hedge_cost s r c d g 0 hedge.None kept trees first.1 with) (λ k low. absurd (omega (arith, low, nothing.1)))
 
   pub begun_hedges : r.hedges ≡ 1
-  begun_hedges = omega (arith, first.1, no_hedges)
+  begun_hedges = omega (arith, first.1, nothing.1)
 
-  pub begun_up : AreUpTo r d 0
-  begun_up = record { hedges = λ k low. at_zero k (omega (arith, low, first.1)); trees = λ k low. absurd (omega (arith, low, trees, no_trees)) }
+  begun_up : AreUpTo r d 0
+  begun_up = record { hedges = λ k low. at_zero k (omega (arith, low, first.1)); trees = λ k low. absurd (omega (arith, low, trees, nothing.0)) }
     where
       at_zero : (k : ℕ) → k ≤ s.hedges → hedge_cost d k ≤ 0
-      at_zero k low = let same : k ≡ s.hedges = omega (arith, low, no_hedges) in subst (λ w. hedge_cost d w ≤ 0) (sym same) (omega (arith, new_hedge_cost s r c d g 0 hedge.None kept trees first.1 with))
+      at_zero k low = let same : k ≡ s.hedges = omega (arith, low, nothing.1) in subst (λ w. hedge_cost d w ≤ 0) (sym same) (omega (arith, new_hedge_cost s r c d g 0 hedge.None kept trees first.1 with))
 
-  pub begun_none : IsNoneDone r d
+  begun_none : IsNoneDone r d
   begun_none = (s.hedges, here, omega (arith, new_hedge_cost s r c d g 0 hedge.None kept trees first.1 with))
+
+  pub none_kept : (most : ℕ) → 1 ≤ most → IsNoneKept most r d
+  none_kept most some = record {
+    kept = begun_kept;
+    hedges = omega (arith, begun_hedges, some);
+    trees = trees ∙ nothing.0;
+    up_to = begun_up;
+    done = begun_none;
+  }
 
 -- the first level
 pub begun_ready : (most : ℕ) (s : Held) (c : Closed) (starts : List ℕ) → IsBegun most s c → starts ≡ 0 ∷ 0 ∷ [] → IsReady most 1 s c starts 0
@@ -75,12 +84,19 @@ begun_ready most s c starts begun e = record {
     by (suc zero) low = (omega arith, λ t last from. omega (arith, begun.trees t last), λ t last to. absurd (omega (arith, to)))
     by (suc (suc j)) low = absurd (omega (arith, low))
 
-pub begun_text : (most : ℕ) (s r : Held) (c d : Closed) → AreUpTo s c 0 → IsNoneDone s c → s.trees ≡ 0 → Steps most 1 s c r d → r.hedges ≡ s.hedges → IsTextDone r d → IsBegun most r d
-begun_text most s r c d up none trees steps hedges text = record {
-  kept = steps.kept;
-  few = steps.few;
-  hedges = λ h low. let old : h < s.hedges = omega (arith, low, hedges) in omega (arith, steps.goes.hedge_costs h old, up.hedges h old);
-  trees = λ t last. steps.goes.new_trees t (omega (arith, trees)) last;
-  none = none_done_stays 1 s r c d steps.goes none;
-  text = text;
+pub begun_at : (most : ℕ) (s : Held) (c : Closed) → most < 4294967295 → IsNoneKept most s c → IsAt s c most 1
+begun_at most s c limit none = record {
+  kept = none.kept;
+  few = record { limit = limit; hedges = none.hedges; trees = omega (arith, none.trees) };
+  up_to = record { hedges = λ h low. omega (arith, none.up_to.hedges h low); trees = λ t last. omega (arith, none.up_to.trees t last) };
+}
+
+pub begun_text : (most : ℕ) (s r : Held) (c d : Closed) → IsNoneKept most s c → TreesTried most 1 s c r d (IsTextDone r d) → IsBegun most r d
+begun_text most s r c d none tried = record {
+  kept = tried.steps.at.kept;
+  few = tried.steps.at.few;
+  hedges = λ h low. let old : h < s.hedges = omega (arith, low, tried.hedges) in omega (arith, tried.steps.goes.hedge_costs h old, none.up_to.hedges h old);
+  trees = λ t last. tried.steps.goes.new_trees t (omega (arith, none.trees)) last;
+  none = none_done_stays 1 s r c d tried.steps.goes none.done;
+  text = tried.done;
 }

@@ -52,18 +52,18 @@ module _ (most hedge x : ℕ) (s r q p : Held) (c d e f : Closed) (starts : List
 
   pub far_next : IsFar most p f starts (hedge + 1)
   far_next = record {
-    kept = last.kept;
-    few = last.few;
-    up_to = last.up_to;
+    kept = last.at.kept;
+    few = last.at.few;
+    up_to = last.at.up_to;
     done = below;
     before = record { wraps = λ h to. wraps_done h (below_or_last h hedge (hedge + 1) (omega arith) to); appends = λ h t to within. appends_done h t (below_or_last h hedge (hedge + 1) (omega arith) to) within };
     count = far.count;
     begun = there;
   }
 
-pub next_ranges : (cost : ℕ) (r q : Held) (d e : Closed) (hedge from to : ℕ) → Goes cost r d q e → hedge < r.hedges → to ≤ r.trees → AreRangesDone r d hedge from to → ((t : ℕ) → from ≤ t → t < to → IsAppendDone q e hedge t) → AreRangesDone q e (hedge + 1) from to
-next_ranges cost r q d e hedge from to goes low within done one h t before above below = by (below_or_last h hedge (hedge + 1) (omega arith) before)
+pub next_ranges : (cost : ℕ) (r q : Held) (d e : Closed) (hedge from to : ℕ) → Goes cost r d q e → ((t : ℕ) → from ≤ t → t < to → (hedge < r.hedges) × (t < r.trees)) → AreRangesDone r d hedge from to → ((t : ℕ) → from ≤ t → t < to → IsAppendDone q e hedge t) → AreRangesDone q e (hedge + 1) from to
+next_ranges cost r q d e hedge from to goes within done one h t before above below = by (below_or_last h hedge (hedge + 1) (omega arith) before)
   where
     by : (h < hedge) ⊎ (h ≡ hedge) → IsAppendDone q e h t
-    by (inl old) = append_done_stays cost r q d e goes h t (omega (arith, old, low)) (omega (arith, below, within)) (done h t old above below)
+    by (inl old) = append_done_stays cost r q d e goes h t (omega (arith, old, (within t above below).0)) (within t above below).1 (done h t old above below)
     by (inr this) = subst (λ k. IsAppendDone q e k t) (sym this) (one t above below)

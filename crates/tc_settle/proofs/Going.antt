@@ -2,8 +2,8 @@
 use Rattle.std.proofs.Common.{◌≡◌, ◌⊎◌, inl, inr, ℕ, ◌+◌, ◌<◌, ◌≤◌, List, length, slice_index, refl, ◌∙◌, sym, subst, arith}
 use Rattle.tc_settle.specs.declared.closed.Closed.{Closed}
 use Rattle.tc_settle.specs.Held.{Held, Grows}
-use Rattle.tc_settle.specs.Closed.{hedge_cost, tree_cost, IsCapped, IsKept}
-use Rattle.tc_settle.specs.Settled.{Goes, Steps, AreFew, AreUpTo, AreStarts, AreDoneBelow, IsNoneDone, IsAppendDone, IsWrapDone, AreWrapsDone, IsTextDone}
+use Rattle.tc_settle.specs.Closed.{hedge_cost, tree_cost, IsCapped}
+use Rattle.tc_settle.specs.Settled.{Goes, Steps, AppendCosts, IsAt, WrapCosts, AreStarts, AreDoneBelow, IsNoneDone, IsAppendDone, IsWrapDone, AreWrapsDone, IsTextDone}
 use Rattle.tc_settle.proofs.Derived.{none_stays, text_stays, append_stays, wrap_stays}
 
 pub grows_nothing : (s : Held) → Grows s s
@@ -41,11 +41,9 @@ grows_twice {s} {r} {q} f g = record {
 pub low_or_high : (i n : ℕ) → (i < n) ⊎ (n ≤ i)
 low_or_high i n = grind arith
 
-pub steps_nothing : (most cost : ℕ) (s : Held) (c : Closed) → IsKept s c → AreFew s c most → AreUpTo s c cost → Steps most cost s c s c
-steps_nothing most cost s c kept few up = record {
-  kept = kept;
-  few = few;
-  up_to = up;
+pub steps_nothing : (most cost : ℕ) (s : Held) (c : Closed) → IsAt s c most cost → Steps most cost s c s c
+steps_nothing most cost s c at = record {
+  at = at;
   goes = record {
     grows = grows_nothing s;
     hedge_costs = λ _ _. refl;
@@ -113,13 +111,21 @@ module _ (cost : ℕ) (s r : Held) (c d : Closed) (goes : Goes cost s c r d) whe
       below t to = let old : t < s.trees = omega (arith, to, (are j low).0) in omega (arith, (are j low).2 t old to, goes.tree_costs t old)
 
 pub steps_twice : (most cost : ℕ) (s r q : Held) (c d e : Closed) → Steps most cost s c r d → Steps most cost r d q e → Steps most cost s c q e
-steps_twice most cost s r q c d e first second = record { kept = second.kept; few = second.few; up_to = second.up_to; goes = goes_on cost s r c d first.goes q e second.goes }
+steps_twice most cost s r q c d e first second = record { at = second.at; goes = goes_on cost s r c d first.goes q e second.goes }
 
--- costs that make up one make it up still
-pub sum_capped : (cost : ℕ) (s r : Held) (c d : Closed) → Goes cost s c r d → (h t k : ℕ) → h < s.hedges → t < s.trees → IsCapped (hedge_cost c h + tree_cost c t) k → IsCapped (hedge_cost d h + tree_cost d t) k
-sum_capped cost s r c d goes h t k front last capped =
-    let same : hedge_cost d h + tree_cost d t ≡ hedge_cost c h + tree_cost c t = omega (arith, goes.hedge_costs h front, goes.tree_costs t last) in
-    subst (λ n. IsCapped n k) (sym same) capped
+-- what comes to a cost comes to it still
+module _ (n : ℕ) (s r : Held) (c d : Closed) (goes : Goes n s c r d) where
+  pub append_costs_stay : (h t cost : ℕ) → AppendCosts s c h t cost → AppendCosts r d h t cost
+  append_costs_stay h t cost costs =
+      let same : hedge_cost d h + tree_cost d t ≡ hedge_cost c h + tree_cost c t = omega (arith, goes.hedge_costs h costs.hedge, goes.tree_costs t costs.tree) in
+      record {
+        hedge = omega (arith, costs.hedge, goes.grows.hedges);
+        tree = omega (arith, costs.tree, goes.grows.trees);
+        sum = subst (λ k. IsCapped k cost) (sym same) costs.sum;
+      }
 
-pub more_capped : (cost : ℕ) (s r : Held) (c d : Closed) → Goes cost s c r d → (h k : ℕ) → h < s.hedges → IsCapped (hedge_cost c h + 1) k → IsCapped (hedge_cost d h + 1) k
-more_capped cost s r c d goes h k front capped = subst (λ n. IsCapped (n + 1) k) (sym (goes.hedge_costs h front)) capped
+  pub wrap_costs_stay : (h cost : ℕ) → WrapCosts s c h cost → WrapCosts r d h cost
+  wrap_costs_stay h cost costs = record {
+    hedge = omega (arith, costs.hedge, goes.grows.hedges);
+    sum = subst (λ k. IsCapped (k + 1) cost) (sym (goes.hedge_costs h costs.hedge)) costs.sum;
+  }

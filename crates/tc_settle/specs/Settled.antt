@@ -4,11 +4,18 @@ use Rattle.tc_settle.specs.declared.closed.Closed.{Closed}
 use Rattle.tc_settle.specs.declared.closed.MadeHedge.{MadeHedge}
 use Rattle.tc_settle.specs.declared.closed.MadeTree.{MadeTree}
 use Rattle.tc_settle.specs.Held.{Held, Grows, IsNoneAt, IsTextAt, IsAppendAt, IsWrapAt}
-use Rattle.tc_settle.specs.Closed.{hedge_cost, tree_cost, IsKept}
+use Rattle.tc_settle.specs.Closed.{hedge_cost, tree_cost, IsCapped, IsKept}
 
--- costs don't fall
+-- costs don't fall, and none passes 2,001
 abbrev pub IsInOrder : List ℕ → Type 0
 IsInOrder costs = (i j : ℕ) → i ≤ j → j < length costs → slice_index costs i ≤ slice_index costs j
+
+abbrev pub AreCosts : List ℕ → Type 0
+AreCosts costs = IsInOrder costs × ((u : ℕ) → u < length costs → slice_index costs u ≤ 2001)
+
+-- nothing is held
+abbrev pub HoldsNothing : Held → Type 0
+HoldsNothing s = (s.trees ≡ 0) × (s.hedges ≡ 0)
 
 module _ (s : Held) (c : Closed) where
   -- tried: it is dead, or held at no greater cost
@@ -59,10 +66,27 @@ module _ (s : Held) (c : Closed) where
     pub hedges : (u : ℕ) → u < s.hedges → hedge_cost c u ≤ cost
     pub trees : (u : ℕ) → u < s.trees → tree_cost c u ≤ cost
 
-  -- no more than so many
+  -- no more than so many, and one more has a number still
   pub record AreFew (most : ℕ) : Type 0 where
+    pub limit : most < 4294967295
     pub hedges : s.hedges ≤ most
     pub trees : s.trees ≤ most
+
+  -- before and after something is tried at a cost: all that is held is kept, no more than so many, and nothing costs more
+  pub record IsAt (most cost : ℕ) : Type 0 where
+    pub kept : IsKept s c
+    pub few : AreFew most
+    pub up_to : AreUpTo cost
+
+  -- an element around a list of trees, and a list of trees with a tree behind, come to a cost
+  pub record WrapCosts (h cost : ℕ) : Type 0 where
+    pub hedge : h < s.hedges
+    pub sum : IsCapped (hedge_cost c h + 1) cost
+
+  pub record AppendCosts (h t cost : ℕ) : Type 0 where
+    pub hedge : h < s.hedges
+    pub tree : t < s.trees
+    pub sum : IsCapped (hedge_cost c h + tree_cost c t) cost
 
   -- at each cost stands where the trees of this cost begin
   abbrev pub AreStarts : List ℕ → Type 0
@@ -77,12 +101,22 @@ pub record Goes (cost : ℕ) (s : Held) (c : Closed) (r : Held) (d : Closed) : T
   pub new_hedges : (u : ℕ) → s.hedges ≤ u → u < r.hedges → hedge_cost d u ≡ cost
   pub new_trees : (u : ℕ) → s.trees ≤ u → u < r.trees → tree_cost d u ≡ cost
 
--- all that holds before and after something is tried at a cost
+-- something was tried at a cost
 pub record Steps (most cost : ℕ) (s : Held) (c : Closed) (r : Held) (d : Closed) : Type 0 where
-  pub kept : IsKept r d
-  pub few : AreFew r d most
-  pub up_to : AreUpTo r d cost
+  pub at : IsAt r d most cost
   pub goes : Goes cost s c r d
+
+-- elements or the text were tried at a cost: no list of trees came on
+pub record TreesTried (most cost : ℕ) (s : Held) (c : Closed) (r : Held) (d : Closed) (Done : Type 0) : Type 0 where
+  pub steps : Steps most cost s c r d
+  pub hedges : r.hedges ≡ s.hedges
+  pub done : Done
+
+-- lists of trees with one more behind were tried at a cost: no tree came on
+pub record HedgesTried (most cost : ℕ) (s : Held) (c : Closed) (r : Held) (d : Closed) (Done : Type 0) : Type 0 where
+  pub steps : Steps most cost s c r d
+  pub trees : r.trees ≡ s.trees
+  pub done : Done
 
 -- one more list of trees, or one more tree
 abbrev pub IsWithHedge : Closed → MadeHedge → ℕ → Closed → Type 0
@@ -104,6 +138,14 @@ pub record IsReady (most cost : ℕ) (s : Held) (c : Closed) (starts : List ℕ)
   pub count : length starts ≡ cost + 1
   pub begun : AreStarts s c starts
 
+-- before trees are tried behind the first lists of trees, at a cost up to 2,000 that is greater than theirs
+pub record IsLevel (cost : ℕ) (s : Held) (c : Closed) (starts : List ℕ) (first : ℕ) : Type 0 where
+  pub near : cost ≤ 2000
+  pub within : first ≤ s.hedges
+  pub lower : (h : ℕ) → h < first → hedge_cost c h < cost
+  pub count : length starts ≡ cost + 2
+  pub begun : AreStarts s c starts
+
 -- among costs past 2,000: all that costs less was tried, and all that is made of the first lists of trees
 pub record IsFar (most : ℕ) (s : Held) (c : Closed) (starts : List ℕ) (hedge : ℕ) : Type 0 where
   pub kept : IsKept s c
@@ -119,6 +161,14 @@ pub record IsWhole (most : ℕ) (s : Held) (c : Closed) : Type 0 where
   pub kept : IsKept s c
   pub few : AreFew s c most
   pub done : AreAllDone s c
+
+-- the list of no tree is kept, and no more
+pub record IsNoneKept (most : ℕ) (s : Held) (c : Closed) : Type 0 where
+  pub kept : IsKept s c
+  pub hedges : s.hedges ≤ most
+  pub trees : s.trees ≡ 0
+  pub up_to : AreUpTo s c 0
+  pub done : IsNoneDone s c
 
 -- the list of no tree and the text are kept, and no more
 pub record IsBegun (most : ℕ) (s : Held) (c : Closed) : Type 0 where

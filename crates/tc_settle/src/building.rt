@@ -1,8 +1,9 @@
 // A tree of a row.
-ghost use Rattle.std.specs.Prelude.{◌≡◌, ◌<◌, ◌≤◌, ◌+◌, ◌∷◌, ◌++◌, [], ℕ, IfOk, OnOk, IsErrOf, reverse};
+ghost use Rattle.std.specs.Prelude.{◌≡◌, ◌<◌, ◌≤◌, ◌∷◌, ◌++◌, [], IfOk, OnOk, IsErrOf, reverse};
 ghost use Rattle.tc_model.specs.Symbols.{fresh_name, symbol_count};
 ghost use Rattle.tc_model.specs.Trees.{element, none};
 ghost use Rattle.tc_model.specs.Views.{before, trees};
+ghost use Rattle.tc_settle.specs.Building.{IsBuildable, IsNearHedge, IsNearTree};
 ghost use Rattle.tc_settle.specs.Closed.{IsClosure, hedge_cost, tree_cost};
 ghost use Rattle.tc_settle.specs.Made.{IsMadeWith, IsOneMade};
 
@@ -90,10 +91,8 @@ fn build_tree<'b, R: NumberedRows>(
     closed: &Closed,
     tree: u32,
 ) -> Result<Node<'b>, NoMemory>
-    requires closure { IsClosure (R.held rows.now) closed.now }
-    requires symbols { (R.held rows.now).symbols ≤ symbol_count alphabet.now }
-    requires tree { tree < (R.held rows.now).trees }
-    requires near { tree_cost closed.now tree ≤ 2000 }
+    requires rows { IsBuildable (R.held rows.now) alphabet.now closed.now }
+    requires near { IsNearTree (R.held rows.now) closed.now tree }
     ensures { IfOk result
         (λ node. IsOneMade (R.held rows.now) alphabet.now (before node none) tree
         (tree_cost closed.now tree)) }
@@ -117,10 +116,8 @@ fn build_kids<'b, R: NumberedRows>(
     closed: &Closed,
     hedge: u32,
 ) -> Result<&'b [Node<'b>], NoMemory>
-    requires closure { IsClosure (R.held rows.now) closed.now }
-    requires symbols { (R.held rows.now).symbols ≤ symbol_count alphabet.now }
-    requires hedge { hedge < (R.held rows.now).hedges }
-    requires near { hedge_cost closed.now hedge ≤ 2000 }
+    requires rows { IsBuildable (R.held rows.now) alphabet.now closed.now }
+    requires near { IsNearHedge (R.held rows.now) closed.now hedge }
     ensures { IfOk result
         (λ kids. IsMadeWith (R.held rows.now) alphabet.now (trees kids.now) hedge
         (hedge_cost closed.now hedge)) }
@@ -141,10 +138,8 @@ fn push_kids<'b, R: NumberedRows>(
     kids: &mut Vec<Node<'b>, &'b Bump>,
     hedge: u32,
 ) -> Result<(), NoMemory>
-    requires closure { IsClosure (R.held rows.now) closed.now }
-    requires symbols { (R.held rows.now).symbols ≤ symbol_count alphabet.now }
-    requires hedge { hedge < (R.held rows.now).hedges }
-    requires near { hedge_cost closed.now hedge ≤ 2000 }
+    requires rows { IsBuildable (R.held rows.now) alphabet.now closed.now }
+    requires near { IsNearHedge (R.held rows.now) closed.now hedge }
     requires none { kids.old.items ≡ [] }
     ensures { OnOk result
         (IsMadeWith (R.held rows.now) alphabet.now (trees (reverse kids.new.items)) hedge

@@ -1,7 +1,7 @@
 // What is kept of rows: what each is made of, and its cost.
 ghost use Rattle.std.specs.Prelude.{◌≡◌, ◌<◌, ◌≤◌, ◌+◌, ℕ, OnOk, [], ◌∷◌, ◌++◌, length, slice_get, slice_index, MatchOption, Some};
 ghost use Rattle.tc_settle.specs.Closed.{hedge_cost, tree_cost};
-ghost use Rattle.tc_settle.specs.Settled.{IsInOrder, IsWithHedge, IsWithTree};
+ghost use Rattle.tc_settle.specs.Settled.{AreCosts, IsWithHedge, IsWithTree};
 
 use crate::rows::HoldFault;
 use std::alloc::Global;
@@ -139,12 +139,8 @@ impl Closed {
 
     /// A cost that nothing passes that is made of what there is.
     pub(crate) fn reach(&self) -> u32
-        requires hedges { IsInOrder self.now.hedge_costs.items }
-        requires trees { IsInOrder self.now.tree_costs.items }
-        requires hedges_most { (u : ℕ) → u < length self.now.hedge_costs.items
-            → hedge_cost self.now u ≤ 2001 }
-        requires trees_most { (u : ℕ) → u < length self.now.tree_costs.items
-            → tree_cost self.now u ≤ 2001 }
+        requires hedges { AreCosts self.now.hedge_costs.items }
+        requires trees { AreCosts self.now.tree_costs.items }
         ensures wraps { (h : ℕ) → h < length self.now.hedge_costs.items
             → hedge_cost self.now h + 1 ≤ result }
         ensures appends { (h t : ℕ) → h < length self.now.hedge_costs.items
@@ -159,8 +155,7 @@ impl Closed {
 
 /// The last of costs in order, and 0 where there is none.
 fn greatest(costs: &[u32]) -> u32
-    requires in_order { IsInOrder costs.now }
-    requires most { (u : ℕ) → u < length costs.now → slice_index costs.now u ≤ 2001 }
+    requires { AreCosts costs.now }
     ensures greatest { (u : ℕ) → u < length costs.now → slice_index costs.now u ≤ result }
     ensures few { result ≤ 2001 }
 {

@@ -1,7 +1,7 @@
 // All that is made of rows at one cost, and all that costs more than 2,000.
-ghost use Rattle.std.specs.Prelude.{◌≡◌, ◌<◌, ◌≤◌, ◌+◌, ℕ, IfErr, IfOk, OnOk, length};
-ghost use Rattle.tc_settle.specs.Closed.{IsCause, IsKept, hedge_cost, tree_cost};
-ghost use Rattle.tc_settle.specs.Settled.{AreDoneBelow, AreFew, AreRangesDone, AreUpTo, AreWrapsDone, IsFar, IsReady, IsWhole, Steps};
+ghost use Rattle.std.specs.Prelude.{◌<◌, ◌≤◌, ◌+◌, ℕ, IfErr, IfOk, OnOk};
+ghost use Rattle.tc_settle.specs.Closed.{IsCause};
+ghost use Rattle.tc_settle.specs.Settled.{AppendCosts, AreDoneBelow, AreRangesDone, AreWrapsDone, HedgesTried, IsAt, IsFar, IsReady, IsWhole, TreesTried};
 
 use crate::closed::{CloseFault, Closed, push_start};
 use crate::rows::NumberedRows;
@@ -20,8 +20,6 @@ pub(crate) fn level<R: NumberedRows>(
     cost: u32,
     most: u32,
 ) -> Result<u32, CloseFault>
-    requires most { most < 4294967295 }
-    requires some { 1 ≤ cost }
     requires near { cost ≤ 2000 }
     requires ready { IsReady most cost (R.held rows.old) closed.old starts.old.items wrapped }
     ensures ready { IfOk result
@@ -42,16 +40,12 @@ fn wrap_far<R: NumberedRows>(
     hedge: u32,
     most: u32,
 ) -> Result<(), CloseFault>
-    requires most { most < 4294967295 }
-    requires kept { IsKept (R.held rows.old) closed.old }
-    requires few { AreFew (R.held rows.old) closed.old most }
-    requires up_to { AreUpTo (R.held rows.old) closed.old 2001 }
-    requires hedge { hedge < (R.held rows.old).hedges }
-    requires near { AreDoneBelow (R.held rows.old) closed.old 2001 }
-    ensures steps { OnOk result
-        (Steps most 2001 (R.held rows.old) closed.old (R.held rows.new) closed.new) }
-    ensures hedges { OnOk result ((R.held rows.new).hedges ≡ (R.held rows.old).hedges) }
-    ensures done { OnOk result (AreWrapsDone (R.held rows.new) closed.new hedge) }
+    requires at { IsAt (R.held rows.old) closed.old most 2001 }
+    requires near { (hedge < (R.held rows.old).hedges)
+        × AreDoneBelow (R.held rows.old) closed.old 2001 }
+    ensures tried { OnOk result
+        (TreesTried most 2001 (R.held rows.old) closed.old (R.held rows.new) closed.new
+        (AreWrapsDone (R.held rows.new) closed.new hedge)) }
     ensures cause { IfErr result (λ e. IsCause (R.is_full rows.new) most (R.held rows.new) e) }
 {
     if closed.hedge_costs[hedge as usize] + 1 < FAR {
@@ -69,17 +63,12 @@ fn append_before<R: NumberedRows>(
     to: u32,
     most: u32,
 ) -> Result<(), CloseFault>
-    requires most { most < 4294967295 }
-    requires kept { IsKept (R.held rows.old) closed.old }
-    requires few { AreFew (R.held rows.old) closed.old most }
-    requires up_to { AreUpTo (R.held rows.old) closed.old 2001 }
-    requires hedge { hedge ≤ (R.held rows.old).hedges }
-    requires to { to ≤ (R.held rows.old).trees }
-    requires cost { (t : ℕ) → from ≤ t → t < to → tree_cost closed.old t ≡ 2001 }
-    ensures steps { OnOk result
-        (Steps most 2001 (R.held rows.old) closed.old (R.held rows.new) closed.new) }
-    ensures trees { OnOk result ((R.held rows.new).trees ≡ (R.held rows.old).trees) }
-    ensures done { OnOk result (AreRangesDone (R.held rows.new) closed.new hedge from to) }
+    requires at { IsAt (R.held rows.old) closed.old most 2001 }
+    requires costs { (h t : ℕ) → h < hedge → from ≤ t → t < to
+        → AppendCosts (R.held rows.old) closed.old h t 2001 }
+    ensures tried { OnOk result
+        (HedgesTried most 2001 (R.held rows.old) closed.old (R.held rows.new) closed.new
+        (AreRangesDone (R.held rows.new) closed.new hedge from to)) }
     ensures cause { IfErr result (λ e. IsCause (R.is_full rows.new) most (R.held rows.new) e) }
 {
     for earlier in 0..hedge {
@@ -96,7 +85,6 @@ fn far_hedge<R: NumberedRows>(
     hedge: u32,
     most: u32,
 ) -> Result<(), CloseFault>
-    requires most { most < 4294967295 }
     requires far { IsFar most (R.held rows.old) closed.old starts.now hedge }
     requires hedge { hedge < (R.held rows.old).hedges }
     ensures far { OnOk result (IsFar most (R.held rows.new) closed.new starts.now (hedge + 1)) }
@@ -118,8 +106,7 @@ pub(crate) fn all_far<R: NumberedRows>(
     starts: &[u32],
     most: u32,
 ) -> Result<(), CloseFault>
-    requires most { most < 4294967295 }
-    requires far { IsFar most (R.held rows.old) closed.old starts.now 0 }
+    requires { IsFar most (R.held rows.old) closed.old starts.now 0 }
     ensures whole { OnOk result (IsWhole most (R.held rows.new) closed.new) }
     ensures cause { IfErr result (λ e. IsCause (R.is_full rows.new) most (R.held rows.new) e) }
 {

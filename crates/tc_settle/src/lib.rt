@@ -11,9 +11,11 @@ mod rows;
 mod runs;
 mod settling;
 mod trying;
+mod wraps;
 
 pub use building::{BuildFault, build};
 pub use closed::{CloseFault, Closed, MadeHedge, MadeTree};
 pub use failing::first_failing;
 pub use rows::{HoldFault, NumberedRows};
 pub use settling::close;
+pub use wraps::Wraps;

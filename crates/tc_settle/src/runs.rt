@@ -1,7 +1,7 @@
 // Many things that are made of rows at one cost.
-ghost use Rattle.std.specs.Prelude.{◌≡◌, ◌<◌, ◌≤◌, ◌+◌, ℕ, IfErr, OnOk, length};
-ghost use Rattle.tc_settle.specs.Closed.{IsCapped, IsCause, IsKept, hedge_cost, tree_cost};
-ghost use Rattle.tc_settle.specs.Settled.{AreFew, AreStarts, AreSumsDone, AreUpTo, AreWrapsDone, IsAppendDone, Steps};
+ghost use Rattle.std.specs.Prelude.{◌<◌, ◌≤◌, ℕ, IfErr, OnOk};
+ghost use Rattle.tc_settle.specs.Closed.{IsCause};
+ghost use Rattle.tc_settle.specs.Settled.{AppendCosts, AreSumsDone, AreWrapsDone, HedgesTried, IsAppendDone, IsAt, IsLevel, TreesTried, WrapCosts};
 
 use crate::closed::{CloseFault, Closed};
 use crate::rows::NumberedRows;
@@ -17,19 +17,12 @@ pub(crate) fn append_trees<R: NumberedRows>(
     cost: u32,
     most: u32,
 ) -> Result<(), CloseFault>
-    requires most { most < 4294967295 }
-    requires kept { IsKept (R.held rows.old) closed.old }
-    requires few { AreFew (R.held rows.old) closed.old most }
-    requires up_to { AreUpTo (R.held rows.old) closed.old cost }
-    requires hedge { hedge < (R.held rows.old).hedges }
-    requires to { to ≤ (R.held rows.old).trees }
-    requires cost { (t : ℕ) → from ≤ t → t < to
-        → IsCapped (hedge_cost closed.old hedge + tree_cost closed.old t) cost }
-    ensures steps { OnOk result
-        (Steps most cost (R.held rows.old) closed.old (R.held rows.new) closed.new) }
-    ensures trees { OnOk result ((R.held rows.new).trees ≡ (R.held rows.old).trees) }
-    ensures done { OnOk result
-        ((t : ℕ) → from ≤ t → t < to → IsAppendDone (R.held rows.new) closed.new hedge t) }
+    requires at { IsAt (R.held rows.old) closed.old most cost }
+    requires costs { (t : ℕ) → from ≤ t → t < to
+        → AppendCosts (R.held rows.old) closed.old hedge t cost }
+    ensures tried { OnOk result
+        (HedgesTried most cost (R.held rows.old) closed.old (R.held rows.new) closed.new
+        ((t : ℕ) → from ≤ t → t < to → IsAppendDone (R.held rows.new) closed.new hedge t)) }
     ensures cause { IfErr result (λ e. IsCause (R.is_full rows.new) most (R.held rows.new) e) }
 {
     for tree in from..to {
@@ -46,16 +39,11 @@ pub(crate) fn wrap_symbols<R: NumberedRows>(
     cost: u32,
     most: u32,
 ) -> Result<(), CloseFault>
-    requires most { most < 4294967295 }
-    requires kept { IsKept (R.held rows.old) closed.old }
-    requires few { AreFew (R.held rows.old) closed.old most }
-    requires up_to { AreUpTo (R.held rows.old) closed.old cost }
-    requires hedge { hedge < (R.held rows.old).hedges }
-    requires cost { IsCapped (hedge_cost closed.old hedge + 1) cost }
-    ensures steps { OnOk result
-        (Steps most cost (R.held rows.old) closed.old (R.held rows.new) closed.new) }
-    ensures hedges { OnOk result ((R.held rows.new).hedges ≡ (R.held rows.old).hedges) }
-    ensures done { OnOk result (AreWrapsDone (R.held rows.new) closed.new hedge) }
+    requires at { IsAt (R.held rows.old) closed.old most cost }
+    requires costs { WrapCosts (R.held rows.old) closed.old hedge cost }
+    ensures tried { OnOk result
+        (TreesTried most cost (R.held rows.old) closed.old (R.held rows.new) closed.new
+        (AreWrapsDone (R.held rows.new) closed.new hedge)) }
     ensures cause { IfErr result (λ e. IsCause (R.is_full rows.new) most (R.held rows.new) e) }
 {
     for symbol in 0..rows.symbols() {
@@ -73,17 +61,12 @@ pub(crate) fn wrap_hedges<R: NumberedRows>(
     cost: u32,
     most: u32,
 ) -> Result<(), CloseFault>
-    requires most { most < 4294967295 }
-    requires kept { IsKept (R.held rows.old) closed.old }
-    requires few { AreFew (R.held rows.old) closed.old most }
-    requires up_to { AreUpTo (R.held rows.old) closed.old cost }
-    requires to { to ≤ (R.held rows.old).hedges }
-    requires cost { (h : ℕ) → from ≤ h → h < to → IsCapped (hedge_cost closed.old h + 1) cost }
-    ensures steps { OnOk result
-        (Steps most cost (R.held rows.old) closed.old (R.held rows.new) closed.new) }
-    ensures hedges { OnOk result ((R.held rows.new).hedges ≡ (R.held rows.old).hedges) }
-    ensures done { OnOk result
-        ((h : ℕ) → from ≤ h → h < to → AreWrapsDone (R.held rows.new) closed.new h) }
+    requires at { IsAt (R.held rows.old) closed.old most cost }
+    requires costs { (h : ℕ) → from ≤ h → h < to
+        → WrapCosts (R.held rows.old) closed.old h cost }
+    ensures tried { OnOk result
+        (TreesTried most cost (R.held rows.old) closed.old (R.held rows.new) closed.new
+        ((h : ℕ) → from ≤ h → h < to → AreWrapsDone (R.held rows.new) closed.new h)) }
     ensures cause { IfErr result (λ e. IsCause (R.is_full rows.new) most (R.held rows.new) e) }
 {
     for hedge in from..to {
@@ -102,19 +85,11 @@ pub(crate) fn append_level<R: NumberedRows>(
     cost: u32,
     most: u32,
 ) -> Result<(), CloseFault>
-    requires most { most < 4294967295 }
-    requires kept { IsKept (R.held rows.old) closed.old }
-    requires few { AreFew (R.held rows.old) closed.old most }
-    requires up_to { AreUpTo (R.held rows.old) closed.old cost }
-    requires count { count ≤ (R.held rows.old).hedges }
-    requires lower { (h : ℕ) → h < count → hedge_cost closed.old h < cost }
-    requires cost { cost ≤ 2000 }
-    requires starts { AreStarts (R.held rows.old) closed.old starts.now }
-    requires all { length starts.now ≡ cost + 2 }
-    ensures steps { OnOk result
-        (Steps most cost (R.held rows.old) closed.old (R.held rows.new) closed.new) }
-    ensures trees { OnOk result ((R.held rows.new).trees ≡ (R.held rows.old).trees) }
-    ensures done { OnOk result (AreSumsDone (R.held rows.new) closed.new count cost) }
+    requires at { IsAt (R.held rows.old) closed.old most cost }
+    requires level { IsLevel cost (R.held rows.old) closed.old starts.now count }
+    ensures tried { OnOk result
+        (HedgesTried most cost (R.held rows.old) closed.old (R.held rows.new) closed.new
+        (AreSumsDone (R.held rows.new) closed.new count cost)) }
     ensures cause { IfErr result (λ e. IsCause (R.is_full rows.new) most (R.held rows.new) e) }
 {
     for hedge in 0..count {

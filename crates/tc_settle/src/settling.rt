@@ -6,9 +6,9 @@
 // of what is listed can't reach it, it isn't entered. The search stops where a count passes its limit: rows
 // that were found by then are rows of live trees, so they show that it passes. It doesn't stop at the first
 // row that fails, since `unsafe` is told only within the limits.
-ghost use Rattle.std.specs.Prelude.{◌≡◌, ◌<◌, ◌≤◌, ◌∷◌, [], ℕ, IfErr, IfOk, OnOk};
-ghost use Rattle.tc_settle.specs.Closed.{IsCause, IsClosure, IsKept};
-ghost use Rattle.tc_settle.specs.Settled.{AreFew, AreUpTo, IsBegun, IsNoneDone, IsWhole};
+ghost use Rattle.std.specs.Prelude.{◌≡◌, ◌<◌, ◌≤◌, ◌∷◌, [], IfErr, IfOk, OnOk};
+ghost use Rattle.tc_settle.specs.Closed.{IsCause, IsClosure};
+ghost use Rattle.tc_settle.specs.Settled.{HoldsNothing, IsBegun, IsNoneKept, IsWhole};
 
 use crate::closed::{CloseFault, Closed, MadeHedge, push_start};
 use crate::levels::{FAR, all_far, level};
@@ -39,13 +39,8 @@ pub fn close<R: NumberedRows>(alloc: Global, rows: &mut R, most: u32) -> Result<
 
 /// The list of no tree.
 fn find_none<R: NumberedRows>(alloc: Global, rows: &mut R, most: u32) -> Result<Closed, CloseFault>
-    requires trees { (R.held rows.old).trees ≡ 0 }
-    requires hedges { (R.held rows.old).hedges ≡ 0 }
-    ensures kept { IfOk result (λ c. IsKept (R.held rows.new) c) }
-    ensures few { IfOk result (λ c. AreFew (R.held rows.new) c most) }
-    ensures up_to { IfOk result (λ c. AreUpTo (R.held rows.new) c 0) }
-    ensures done { IfOk result (λ c. IsNoneDone (R.held rows.new) c) }
-    ensures trees { OnOk result ((R.held rows.new).trees ≡ 0) }
+    requires { HoldsNothing (R.held rows.old) }
+    ensures kept { IfOk result (λ c. IsNoneKept most (R.held rows.new) c) }
     ensures cause { IfErr result (λ e. IsCause (R.is_full rows.new) most (R.held rows.new) e) }
 {
     let mut closed = Closed::new(alloc);
@@ -59,8 +54,7 @@ fn find_none<R: NumberedRows>(alloc: Global, rows: &mut R, most: u32) -> Result<
 
 /// The list of no tree, and the text.
 fn begin<R: NumberedRows>(alloc: Global, rows: &mut R, most: u32) -> Result<Closed, CloseFault>
-    requires trees { (R.held rows.old).trees ≡ 0 }
-    requires hedges { (R.held rows.old).hedges ≡ 0 }
+    requires nothing { HoldsNothing (R.held rows.old) }
     requires most { most < 4294967295 }
     ensures begun { IfOk result (λ c. IsBegun most (R.held rows.new) c) }
     ensures cause { IfErr result (λ e. IsCause (R.is_full rows.new) most (R.held rows.new) e) }
@@ -87,8 +81,7 @@ fn settle<R: NumberedRows>(
     closed: &mut Closed,
     most: u32,
 ) -> Result<(), CloseFault>
-    requires most { most < 4294967295 }
-    requires begun { IsBegun most (R.held rows.old) closed.old }
+    requires { IsBegun most (R.held rows.old) closed.old }
     ensures whole { OnOk result (IsWhole most (R.held rows.new) closed.new) }
     ensures cause { IfErr result (λ e. IsCause (R.is_full rows.new) most (R.held rows.new) e) }
 {
@@ -105,8 +98,7 @@ fn settle<R: NumberedRows>(
 
 /// Finds all rows that are derived, each at its least cost, and at most so many of each kind.
 fn find<R: NumberedRows>(alloc: Global, rows: &mut R, most: u32) -> Result<Closed, CloseFault>
-    requires trees { (R.held rows.old).trees ≡ 0 }
-    requires hedges { (R.held rows.old).hedges ≡ 0 }
+    requires nothing { HoldsNothing (R.held rows.old) }
     requires most { most < 4294967295 }
     ensures whole { IfOk result (λ c. IsWhole most (R.held rows.new) c) }
     ensures cause { IfErr result (λ e. IsCause (R.is_full rows.new) most (R.held rows.new) e) }

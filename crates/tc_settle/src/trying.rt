@@ -1,7 +1,7 @@
 // One thing that is made of rows: it is tried, and kept where it is new.
-ghost use Rattle.std.specs.Prelude.{◌≡◌, ◌<◌, ◌≤◌, ◌+◌, ℕ, IfErr, OnOk};
-ghost use Rattle.tc_settle.specs.Closed.{IsCapped, IsCause, IsKept, hedge_cost, tree_cost};
-ghost use Rattle.tc_settle.specs.Settled.{AreFew, AreUpTo, IsAppendDone, IsTextDone, IsWrapDone, Steps};
+ghost use Rattle.std.specs.Prelude.{◌<◌, IfErr, OnOk};
+ghost use Rattle.tc_settle.specs.Closed.{IsCause};
+ghost use Rattle.tc_settle.specs.Settled.{AppendCosts, HedgesTried, IsAppendDone, IsAt, IsTextDone, IsWrapDone, TreesTried, WrapCosts};
 
 use crate::closed::{CloseFault, Closed, MadeHedge, MadeTree};
 use crate::rows::NumberedRows;
@@ -12,14 +12,10 @@ pub(crate) fn try_text<R: NumberedRows>(
     closed: &mut Closed,
     most: u32,
 ) -> Result<(), CloseFault>
-    requires most { most < 4294967295 }
-    requires kept { IsKept (R.held rows.old) closed.old }
-    requires few { AreFew (R.held rows.old) closed.old most }
-    requires up_to { AreUpTo (R.held rows.old) closed.old 1 }
-    ensures steps { OnOk result
-        (Steps most 1 (R.held rows.old) closed.old (R.held rows.new) closed.new) }
-    ensures hedges { OnOk result ((R.held rows.new).hedges ≡ (R.held rows.old).hedges) }
-    ensures done { OnOk result (IsTextDone (R.held rows.new) closed.new) }
+    requires { IsAt (R.held rows.old) closed.old most 1 }
+    ensures tried { OnOk result
+        (TreesTried most 1 (R.held rows.old) closed.old (R.held rows.new) closed.new
+        (IsTextDone (R.held rows.new) closed.new)) }
     ensures cause { IfErr result (λ e. IsCause (R.is_full rows.new) most (R.held rows.new) e) }
 {
     let Some(number) = rows.text()? else {
@@ -43,17 +39,12 @@ pub(crate) fn try_wrap<R: NumberedRows>(
     cost: u32,
     most: u32,
 ) -> Result<(), CloseFault>
-    requires most { most < 4294967295 }
-    requires kept { IsKept (R.held rows.old) closed.old }
-    requires few { AreFew (R.held rows.old) closed.old most }
-    requires up_to { AreUpTo (R.held rows.old) closed.old cost }
-    requires symbol { symbol < (R.held rows.old).symbols }
-    requires hedge { hedge < (R.held rows.old).hedges }
-    requires cost { IsCapped (hedge_cost closed.old hedge + 1) cost }
-    ensures steps { OnOk result
-        (Steps most cost (R.held rows.old) closed.old (R.held rows.new) closed.new) }
-    ensures hedges { OnOk result ((R.held rows.new).hedges ≡ (R.held rows.old).hedges) }
-    ensures done { OnOk result (IsWrapDone (R.held rows.new) closed.new symbol hedge) }
+    requires at { IsAt (R.held rows.old) closed.old most cost }
+    requires costs { (symbol < (R.held rows.old).symbols)
+        × WrapCosts (R.held rows.old) closed.old hedge cost }
+    ensures tried { OnOk result
+        (TreesTried most cost (R.held rows.old) closed.old (R.held rows.new) closed.new
+        (IsWrapDone (R.held rows.new) closed.new symbol hedge)) }
     ensures cause { IfErr result (λ e. IsCause (R.is_full rows.new) most (R.held rows.new) e) }
 {
     let Some(number) = rows.wrap(symbol, hedge)? else {
@@ -77,17 +68,11 @@ pub(crate) fn try_append<R: NumberedRows>(
     cost: u32,
     most: u32,
 ) -> Result<(), CloseFault>
-    requires most { most < 4294967295 }
-    requires kept { IsKept (R.held rows.old) closed.old }
-    requires few { AreFew (R.held rows.old) closed.old most }
-    requires up_to { AreUpTo (R.held rows.old) closed.old cost }
-    requires hedge { hedge < (R.held rows.old).hedges }
-    requires tree { tree < (R.held rows.old).trees }
-    requires cost { IsCapped (hedge_cost closed.old hedge + tree_cost closed.old tree) cost }
-    ensures steps { OnOk result
-        (Steps most cost (R.held rows.old) closed.old (R.held rows.new) closed.new) }
-    ensures trees { OnOk result ((R.held rows.new).trees ≡ (R.held rows.old).trees) }
-    ensures done { OnOk result (IsAppendDone (R.held rows.new) closed.new hedge tree) }
+    requires at { IsAt (R.held rows.old) closed.old most cost }
+    requires costs { AppendCosts (R.held rows.old) closed.old hedge tree cost }
+    ensures tried { OnOk result
+        (HedgesTried most cost (R.held rows.old) closed.old (R.held rows.new) closed.new
+        (IsAppendDone (R.held rows.new) closed.new hedge tree)) }
     ensures cause { IfErr result (λ e. IsCause (R.is_full rows.new) most (R.held rows.new) e) }
 {
     let Some(number) = rows.append(hedge, tree)? else {

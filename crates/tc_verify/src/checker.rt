@@ -1,11 +1,6 @@
 // The rows of a certificate, and whether what comes of them is listed.
-ghost use Rattle.std.specs.Prelude.{◌≡◌, [], IfOk};
-ghost use Rattle.tc_beh.specs.Machines.{IsMachine, IsMachineOf};
-ghost use Rattle.tc_rows.specs.Triples.{Triple};
-ghost use Rattle.tc_model.specs.CertificateData.{IsFormed};
-ghost use Rattle.tc_model.specs.CertificateFits.{AllFit};
-ghost use Rattle.tc_verify.specs.Checkers.{AreBegun};
-ghost use Rattle.tc_verify.specs.Fits.{sizes};
+ghost use Rattle.std.specs.Prelude.{IfOk};
+ghost use Rattle.tc_verify.specs.Checkers.{IsBlank, IsFit};
 
 use crate::lists::Lists;
 use crate::reading::{read_hedges, read_trees};
@@ -37,14 +32,8 @@ fn begun<'m, 'b>(
     machine: &'m Machine<'b>,
     cert: &CertData,
 ) -> Result<Checker<'m, 'b>, NoMemory>
-    requires machine { IsMachine machine.now }
-    requires formed { IsFormed cert.now }
-    requires fit { (x : Triple) → IsMachineOf x machine.now → AllFit (sizes x) cert.now }
-    ensures begun { IfOk result (λ c. AreBegun machine.now cert.now c.rows c.new_hedge c.new_tree) }
-    ensures hedges { IfOk result (λ c. c.hedges.items ≡ []) }
-    ensures trees { IfOk result (λ c. c.trees.items ≡ []) }
-    ensures hedge_lists { IfOk result (λ c. c.hedge_lists ≡ []) }
-    ensures tree_lists { IfOk result (λ c. c.tree_lists ≡ []) }
+    requires { IsFit machine.now cert.now }
+    ensures { IfOk result (λ c. IsBlank machine.now cert.now c) }
 {
     let new_hedge = HRow::room(alloc, machine)?;
     let new_tree = TRow::room(alloc, machine)?;
@@ -61,12 +50,10 @@ fn begun<'m, 'b>(
 }
 
 impl<'m, 'b> Checker<'m, 'b> {
-    ghost use Rattle.std.specs.Prelude.{◌<◌, length, MatchBool, OnOk};
+    ghost use Rattle.std.specs.Prelude.{◌≡◌, ◌<◌, length, MatchBool, OnOk};
     ghost use Rattle.tc_model.specs.Symbols.{symbol_count};
-    ghost use Rattle.tc_rows.specs.CertificateRows.{hedges_of, trees_of};
-    ghost use Rattle.tc_verify.specs.Checkers.{AreChecked, view_of};
-    ghost use Rattle.tc_verify.specs.Rooms.{AreReadHedges, AreReadTrees};
-    ghost use Rattle.tc_verify.specs.Listings.{hedge_rows, tree_rows, EmptyHolds, EmptyBreaks, TextHolds, TextBreaks, AppendHolds, AppendBreaks, WrapHolds, WrapBreaks, RootHolds, RootBreaks};
+    ghost use Rattle.tc_verify.specs.Checkers.{AreBegun, AreChecked, AreRead, IsCheckerOf, StaysChecked, view_of};
+    ghost use Rattle.tc_verify.specs.Listings.{EmptyHolds, EmptyBreaks, TextHolds, TextBreaks, AppendHolds, AppendBreaks, WrapHolds, WrapBreaks, RootHolds, RootBreaks};
 
     /// The rows of a certificate whose numbers fit.
     ///
@@ -78,15 +65,8 @@ impl<'m, 'b> Checker<'m, 'b> {
         machine: &'m Machine<'b>,
         cert: &CertData,
     ) -> Result<Checker<'m, 'b>, NoMemory>
-        requires machine { IsMachine machine.now }
-        requires formed { IsFormed cert.now }
-        requires fit { (x : Triple) → IsMachineOf x machine.now → AllFit (sizes x) cert.now }
-        ensures checked { IfOk result (λ c. AreChecked c) }
-        ensures machine { IfOk result (λ c. (view_of c).machine ≡ machine.now) }
-        ensures hedges { IfOk result (λ c. (x : Triple) → IsMachineOf x machine.now
-            → hedge_rows (view_of c) x ≡ hedges_of cert.now) }
-        ensures trees { IfOk result (λ c. (x : Triple) → IsMachineOf x machine.now
-            → tree_rows (view_of c) x ≡ trees_of cert.now) }
+        requires { IsFit machine.now cert.now }
+        ensures { IfOk result (λ c. IsCheckerOf machine.now cert.now c) }
     {
         let mut checker = begun(alloc, machine, cert)?;
         let read = checker.read(alloc, machine, cert);
@@ -110,21 +90,11 @@ impl<'m, 'b> Checker<'m, 'b> {
         machine: &Machine<'_>,
         cert: &CertData,
     ) -> Result<(), NoMemory>
-        requires machine { IsMachine machine.now }
-        requires formed { IsFormed cert.now }
-        requires fit { (x : Triple) → IsMachineOf x machine.now → AllFit (sizes x) cert.now }
-        requires begun { AreBegun machine.now cert.now self.old.rows self.old.new_hedge
-            self.old.new_tree }
-        requires hedges { self.old.hedges.items ≡ [] }
-        requires trees { self.old.trees.items ≡ [] }
-        requires hedge_lists { self.old.hedge_lists ≡ [] }
-        requires tree_lists { self.old.tree_lists ≡ [] }
+        requires fit { IsFit machine.now cert.now }
+        requires blank { IsBlank machine.now cert.now self.old }
         ensures begun { AreBegun machine.now cert.now self.new.rows self.new.new_hedge
             self.new.new_tree }
-        ensures hedges { OnOk result
-            (AreReadHedges machine.now cert.now self.new.hedges.items self.new.hedge_lists) }
-        ensures trees { OnOk result
-            (AreReadTrees machine.now cert.now self.new.trees.items self.new.tree_lists) }
+        ensures read { OnOk result (AreRead machine.now cert.now self.new) }
     {
         read_hedges(
             alloc,
@@ -163,8 +133,7 @@ impl<'m, 'b> Checker<'m, 'b> {
     /// Whether the row of no tree is listed.
     pub(crate) fn empty_is_listed(&mut self) -> bool
         requires checked { AreChecked self.old }
-        ensures checked { AreChecked self.new }
-        ensures same { view_of self.new ≡ view_of self.old }
+        ensures stays { StaysChecked self.old self.new }
         ensures exact { MatchBool result (EmptyHolds (view_of self.old))
             (EmptyBreaks (view_of self.old)) }
     {
@@ -177,8 +146,7 @@ impl<'m, 'b> Checker<'m, 'b> {
     /// Whether the row of a text is listed, or a text can't stand in the input.
     pub(crate) fn text_is_listed(&mut self) -> bool
         requires checked { AreChecked self.old }
-        ensures checked { AreChecked self.new }
-        ensures same { view_of self.new ≡ view_of self.old }
+        ensures stays { StaysChecked self.old self.new }
         ensures exact { MatchBool result (TextHolds (view_of self.old))
             (TextBreaks (view_of self.old)) }
     {
@@ -192,10 +160,9 @@ impl<'m, 'b> Checker<'m, 'b> {
     /// Whether what a tree behind a list of trees makes is listed, or can't stand in the input.
     pub(crate) fn append_is_listed(&mut self, hedge: u32, tree: u32) -> bool
         requires checked { AreChecked self.old }
-        requires hedge { hedge < length (view_of self.old).hedges }
-        requires tree { tree < length (view_of self.old).trees }
-        ensures checked { AreChecked self.new }
-        ensures same { view_of self.new ≡ view_of self.old }
+        requires row { (hedge < length (view_of self.old).hedges)
+            × (tree < length (view_of self.old).trees) }
+        ensures stays { StaysChecked self.old self.new }
         ensures exact { MatchBool result (AppendHolds (view_of self.old) hedge tree)
             (AppendBreaks (view_of self.old) hedge tree) }
     {
@@ -211,10 +178,9 @@ impl<'m, 'b> Checker<'m, 'b> {
     /// Whether what an element of a symbol around a list of trees makes is listed, or can't stand in the input.
     pub(crate) fn wrap_is_listed(&mut self, hedge: u32, symbol: u32) -> bool
         requires checked { AreChecked self.old }
-        requires hedge { hedge < length (view_of self.old).hedges }
-        requires symbol { symbol < symbol_count (view_of self.old).machine.alphabet }
-        ensures checked { AreChecked self.new }
-        ensures same { view_of self.new ≡ view_of self.old }
+        requires row { (hedge < length (view_of self.old).hedges)
+            × (symbol < symbol_count (view_of self.old).machine.alphabet) }
+        ensures stays { StaysChecked self.old self.new }
         ensures exact { MatchBool result (WrapHolds (view_of self.old) hedge symbol)
             (WrapBreaks (view_of self.old) hedge symbol) }
     {
@@ -230,8 +196,7 @@ impl<'m, 'b> Checker<'m, 'b> {
     pub(crate) fn root_is_good(&mut self, tree: u32) -> bool
         requires checked { AreChecked self.old }
         requires tree { tree < length (view_of self.old).trees }
-        ensures checked { AreChecked self.new }
-        ensures same { view_of self.new ≡ view_of self.old }
+        ensures stays { StaysChecked self.old self.new }
         ensures exact { MatchBool result (RootHolds (view_of self.old) tree)
             (RootBreaks (view_of self.old) tree) }
     {

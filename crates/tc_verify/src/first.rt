@@ -1,6 +1,6 @@
 // The first rule that rows break.
-ghost use Rattle.std.specs.Prelude.{◌≡◌, MatchResult};
-ghost use Rattle.tc_verify.specs.Checkers.{AreChecked, view_of};
+ghost use Rattle.std.specs.Prelude.{MatchResult};
+ghost use Rattle.tc_verify.specs.Checkers.{AreChecked, StaysChecked, view_of};
 ghost use Rattle.tc_verify.specs.Firsts.{ListsHold, RowsHold, WrapsToo, AllHold, IsFirstOf};
 
 use crate::checker::Checker;
@@ -24,8 +24,7 @@ pub(crate) enum Broken {
 fn try_appends(checker: &mut Checker<'_, '_>) -> Result<(), Broken>
     requires checked { AreChecked checker.old }
     requires before { ListsHold (view_of checker.old) }
-    ensures checked { AreChecked checker.new }
-    ensures same { view_of checker.new ≡ view_of checker.old }
+    ensures stays { StaysChecked checker.old checker.new }
     ensures first { MatchResult result (λ _. RowsHold (view_of checker.old))
         (λ b. IsFirstOf (view_of checker.old) b) }
 {
@@ -43,8 +42,7 @@ fn try_appends(checker: &mut Checker<'_, '_>) -> Result<(), Broken>
 fn try_wraps(checker: &mut Checker<'_, '_>) -> Result<(), Broken>
     requires checked { AreChecked checker.old }
     requires before { RowsHold (view_of checker.old) }
-    ensures checked { AreChecked checker.new }
-    ensures same { view_of checker.new ≡ view_of checker.old }
+    ensures stays { StaysChecked checker.old checker.new }
     ensures first { MatchResult result (λ _. WrapsToo (view_of checker.old))
         (λ b. IsFirstOf (view_of checker.old) b) }
 {
@@ -62,8 +60,7 @@ fn try_wraps(checker: &mut Checker<'_, '_>) -> Result<(), Broken>
 fn try_roots(checker: &mut Checker<'_, '_>) -> Result<(), Broken>
     requires checked { AreChecked checker.old }
     requires before { WrapsToo (view_of checker.old) }
-    ensures checked { AreChecked checker.new }
-    ensures same { view_of checker.new ≡ view_of checker.old }
+    ensures stays { StaysChecked checker.old checker.new }
     ensures first { MatchResult result (λ _. AllHold (view_of checker.old))
         (λ b. IsFirstOf (view_of checker.old) b) }
 {
@@ -78,8 +75,7 @@ fn try_roots(checker: &mut Checker<'_, '_>) -> Result<(), Broken>
 /// Tries the rules in their order, each over all places in theirs. Tells the first that is broken.
 pub(crate) fn try_rules(checker: &mut Checker<'_, '_>) -> Result<(), Broken>
     requires checked { AreChecked checker.old }
-    ensures checked { AreChecked checker.new }
-    ensures same { view_of checker.new ≡ view_of checker.old }
+    ensures stays { StaysChecked checker.old checker.new }
     ensures first { MatchResult result (λ _. AllHold (view_of checker.old))
         (λ b. IsFirstOf (view_of checker.old) b) }
 {

@@ -1,10 +1,6 @@
 // Rooms of the rows of a certificate's lines.
 ghost use Rattle.std.specs.Prelude.{◌≡◌, [], OnOk};
-ghost use Rattle.tc_rows.specs.Triples.{Triple};
-ghost use Rattle.tc_beh.specs.Machines.{IsMachine, IsMachineOf};
-ghost use Rattle.tc_model.specs.CertificateData.{IsFormed};
-ghost use Rattle.tc_model.specs.CertificateFits.{AllFit};
-ghost use Rattle.tc_verify.specs.Fits.{sizes};
+ghost use Rattle.tc_verify.specs.Checkers.{IsFit};
 ghost use Rattle.tc_verify.specs.Rooms.{AreReadHedges, AreReadTrees};
 
 use crate::lists::Lists;
@@ -25,9 +21,7 @@ pub(crate) fn read_hedges(
     rooms: &mut Vec<HRow>,
     lists: &mut Lists,
 ) -> Result<(), NoMemory>
-    requires machine { IsMachine machine.now }
-    requires formed { IsFormed cert.now }
-    requires fit { (x : Triple) → IsMachineOf x machine.now → AllFit (sizes x) cert.now }
+    requires fit { IsFit machine.now cert.now }
     requires rooms { rooms.old.items ≡ [] }
     requires lists { lists.old ≡ [] }
     ensures { OnOk result (AreReadHedges machine.now cert.now rooms.new.items lists.new) }
@@ -53,9 +47,7 @@ pub(crate) fn read_trees(
     rooms: &mut Vec<TRow>,
     lists: &mut Lists,
 ) -> Result<(), NoMemory>
-    requires machine { IsMachine machine.now }
-    requires formed { IsFormed cert.now }
-    requires fit { (x : Triple) → IsMachineOf x machine.now → AllFit (sizes x) cert.now }
+    requires fit { IsFit machine.now cert.now }
     requires rooms { rooms.old.items ≡ [] }
     requires lists { lists.old ≡ [] }
     ensures { OnOk result (AreReadTrees machine.now cert.now rooms.new.items lists.new) }

@@ -12,7 +12,7 @@ use Rattle.tc_close.proofs.certificate.cert_data.Goals as goal
 pub returns-in_default-clause-data : goal.returns-in_default-clause-data
 returns-in_default-clause-data g c = λ x o.
     let s = c.args.rows.now in
-    too_long x s g.K.Over.is_of o c.output_count-outputs.ensures.known c.shape-shape.result (c.shape-shape.ensures.stands x o) c.shape-shape.ensures.fits c.requires.closed c.requires.derive c.requires.whole c.requires.trees c.requires.hedges
+    too_long x s g.K.Over.is_of o c.output_count-outputs.ensures.known c.shape-shape.result (c.shape-shape.ensures.stands x o) c.shape-shape.ensures.fits c.requires.all.closed c.requires.all.derive c.requires.whole c.requires.all.trees c.requires.all.hedges
     (none_of (LONGEST_FILE < length (flat_map output_text (sets_of s.outputs.matrices))) (λ (all : List (List ℕ)). all ≡ output_lines s) c.in_ok-lines.field-0 c.in_ok-lines.ensures c.in_default.is)
 
 pub returns-clause-same : goal.returns-clause-same
@@ -25,7 +25,7 @@ returns-clause-data g c = λ x o.
     some_of (LONGEST_FILE < length (flat_map output_text (sets_of s.outputs.matrices))) (λ (all : List (List ℕ)). all ≡ output_lines s) c.in_ok-lines.field-0 c.in-Some.lines c.in_ok-lines.ensures c.in-Some.is in
     let order : IsOrder (output_lines s) c.deref.result.now =
     subst (λ (ls : List (List ℕ)). IsOrder ls c.deref.result.now) lines (subst (IsOrder c.in-Some.lines) (sym c.deref.ensures.value) c.in_ok-numbers.ensures) in
-    least_certificate x s g.K.Over.is_of o c.output_count-outputs.ensures.known c.shape-shape.result (c.shape-shape.ensures.stands x o) c.shape-shape.ensures.fits c.requires.closed c.requires.derive c.requires.whole c.requires.trees c.requires.hedges
+    least_certificate x s g.K.Over.is_of o c.output_count-outputs.ensures.known c.shape-shape.result (c.shape-shape.ensures.stands x o) c.shape-shape.ensures.fits c.requires.all.closed c.requires.all.derive c.requires.whole c.requires.all.trees c.requires.all.hedges
     c.deref.result.now order c.in_ok-data.data (c.in_ok-data.ensures.made x o)
 
 pub returns-in_err-lines-clause-data : goal.returns-in_err-lines-clause-data

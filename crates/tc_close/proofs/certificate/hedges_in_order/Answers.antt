@@ -1,19 +1,18 @@
-use Rattle.std.proofs.Common.{◌<◌, ◌≤◌, ◌∙◌, ℕ, List, All, length, map, subst, sym, ap, arith}
+use Rattle.std.proofs.Common.{◌<◌, ◌∙◌, ℕ, List, length, map, subst, sym, ap, arith}
 use Rattle.std.proofs.lemmas.List.Elements.{All-weaker}
 use Rattle.std.proofs.lemmas.Result.{IfOk-weaker}
 use Rattle.tc_close.specs.Lines.{hedge_ranked}
+use Rattle.tc_close.specs.Orders.{AreBelow}
 use Rattle.tc_close.specs.RowState.{RowState}
 use Rattle.tc_close.proofs.HandedOn.{no_value}
 use Rattle.tc_close.proofs.certificate.hedges_in_order.Goals as goal
 
-pub hedges_at-requires-clause-within : goal.hedges_at-requires-clause-within
-hedges_at-requires-clause-within g c =
+pub hedges_at-requires-clause-numbers : goal.hedges_at-requires-clause-numbers
+hedges_at-requires-clause-numbers g c =
     let same = ap (λ (s : RowState). length s.hedges) c.hedge_order.ensures.same in
-    subst (λ (ns : List ℕ). All (λ n. n < length c.hedge_order.new.rows.hedges) ns) (sym c.deref.ensures.value)
-    (All-weaker (λ p. p < length c.args.rows.now.hedges) (λ p. p < length c.hedge_order.new.rows.hedges) (λ p l. omega (arith, l, same)) c.in_ok-numbers.numbers.items c.in_ok-numbers.ensures.within)
-
-pub hedges_at-requires-clause-few : goal.hedges_at-requires-clause-few
-hedges_at-requires-clause-few g c = subst (λ (ns : List ℕ). length ns ≤ 4294967295) (sym c.deref.ensures.value) c.in_ok-numbers.ensures.few
+    let (within, few) = c.in_ok-numbers.ensures.numbers in
+    subst (AreBelow (length c.hedge_order.new.rows.hedges)) (sym c.deref.ensures.value)
+    (All-weaker (λ p. p < length c.args.rows.now.hedges) (λ p. p < length c.hedge_order.new.rows.hedges) (λ p l. omega (arith, l, same)) c.in_ok-numbers.numbers.items within, few)
 
 pub hedges_at-requires-clause-ranks : goal.hedges_at-requires-clause-ranks
 hedges_at-requires-clause-ranks g c = c.requires ∙ sym (ap (λ (s : RowState). length s.outputs.matrices) c.hedge_order.ensures.same)

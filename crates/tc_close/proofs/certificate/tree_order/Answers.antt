@@ -31,33 +31,24 @@ returns-clause-order g c =
     let all : c.loop-place.place ≡ length c.args.rows.now.trees = omega (arith, c.loop-place-test.false, c.tree_count-place-end.ensures) in
     subst (λ (lines : List (List ℕ)). IsOrder lines numbers.items) (c.loop-place.invariant.1 x o ∙ ap (λ n. map f (numbers_below n)) all) order) c.order.ensures
 
-pub returns-clause-within : goal.returns-clause-within
-returns-clause-within g c =
+pub returns-clause-numbers : goal.returns-clause-numbers
+returns-clause-numbers g c =
     let e = c.loop-place.invariant.2 in
     let count : length c.loop-place.all ≡ length c.args.rows.now.trees = omega (arith, e, c.loop-place-test.false, c.tree_count-place-end.ensures) in
-    IfOk-weaker c.order.result _ _ (λ numbers order.
-    All-weaker (λ p. p < length c.loop-place.all) (λ p. p < length c.args.rows.now.trees) (λ p l. omega (arith, l, count)) numbers.items order.within) c.order.ensures
-
-pub returns-clause-few : goal.returns-clause-few
-returns-clause-few g c =
-    let e = c.loop-place.invariant.2 in
-    let count : length c.loop-place.all ≤ 4294967295 = omega (arith, e, c.loop-place-test.false, c.loop-place.auto.place-end, c.tree_count-place-end.type_inv) in
-    IfOk-weaker c.order.result _ _ (λ numbers order. let h = order.count in omega (arith, h, count)) c.order.ensures
+    let few : length c.loop-place.all ≤ 4294967295 = omega (arith, e, c.loop-place-test.false, c.loop-place.auto.place-end, c.tree_count-place-end.type_inv) in
+    IfOk-weaker c.order.result _ _ (λ numbers order. (
+      All-weaker (λ p. p < length c.loop-place.all) (λ p. p < length c.args.rows.now.trees) (λ p l. omega (arith, l, count)) numbers.items order.within,
+      (let h = order.count in omega (arith, h, few)),
+    )) c.order.ensures
 
 pub returns-in_err-line-clause-order : goal.returns-in_err-line-clause-order
 returns-in_err-line-clause-order g c = no_value c.from_residual.result _ _ c.from_residual.ensures.1
 
-pub returns-in_err-line-clause-within : goal.returns-in_err-line-clause-within
-returns-in_err-line-clause-within g c = no_value c.from_residual.result _ _ c.from_residual.ensures.1
+pub returns-in_err-line-clause-numbers : goal.returns-in_err-line-clause-numbers
+returns-in_err-line-clause-numbers g c = no_value c.from_residual.result _ _ c.from_residual.ensures.1
 
 pub returns-in_err-push-clause-order : goal.returns-in_err-push-clause-order
 returns-in_err-push-clause-order g c = no_value c.from_residual-in_err-push.result _ _ c.from_residual-in_err-push.ensures.1
 
-pub returns-in_err-push-clause-within : goal.returns-in_err-push-clause-within
-returns-in_err-push-clause-within g c = no_value c.from_residual-in_err-push.result _ _ c.from_residual-in_err-push.ensures.1
-
-pub returns-in_err-line-clause-few : goal.returns-in_err-line-clause-few
-returns-in_err-line-clause-few g c = no_value c.from_residual.result _ _ c.from_residual.ensures.1
-
-pub returns-in_err-push-clause-few : goal.returns-in_err-push-clause-few
-returns-in_err-push-clause-few g c = no_value c.from_residual-in_err-push.result _ _ c.from_residual-in_err-push.ensures.1
+pub returns-in_err-push-clause-numbers : goal.returns-in_err-push-clause-numbers
+returns-in_err-push-clause-numbers g c = no_value c.from_residual-in_err-push.result _ _ c.from_residual-in_err-push.ensures.1

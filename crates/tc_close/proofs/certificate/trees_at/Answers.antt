@@ -1,4 +1,4 @@
-use Rattle.std.proofs.Common.{◌∷◌, [], length, get_or, ap, ◌∙◌, arith, length-append}
+use Rattle.std.proofs.Common.{◌<◌, ◌∷◌, [], length, get_or, ap, subst, sym, ◌∙◌, arith, length-append}
 use Rattle.std.proofs.lemmas.Option.{slice_get-get_or}
 use Rattle.tc_close.specs.Lines.{tree_ranked}
 use Rattle.tc_close.specs.RowState.{RowState}
@@ -7,7 +7,11 @@ use Rattle.tc_close.proofs.HandedOn.{no_value}
 use Rattle.tc_close.proofs.certificate.trees_at.Goals as goal
 
 pub push-requires : goal.push-requires
-push-requires g c = let e = c.loop-place.invariant.2 in omega (arith, e, c.loop-place-test.true, c.requires.few)
+push-requires g c = let e = c.loop-place.invariant.2 in omega (arith, e, c.loop-place-test.true, c.requires.numbers.1)
+
+pub ranked_tree-requires-clause-place : goal.ranked_tree-requires-clause-place
+ranked_tree-requires-clause-place g c =
+    subst (λ (s : RowState). get_or c.args.numbers.now c.loop-place.place 0 < length s.trees) (sym c.loop-place.invariant.0) (c.requires.numbers.0 c.loop-place.place 0 c.loop-place-test.true)
 
 pub loop-place-preserved : goal.loop-place-preserved
 loop-place-preserved g c = (

@@ -1,9 +1,9 @@
-use Rattle.std.proofs.Common.{◌≤◌, ◌∙◌, length, subst, sym}
+use Rattle.std.proofs.Common.{◌∙◌, subst, sym}
 use Rattle.tc_rows.specs.Triples.{Triple}
-use Rattle.tc_settle.specs.Closed.{IsClosure}
+use Rattle.tc_close.specs.Settling.{IsSettled}
 use Rattle.tc_settle.proofs.Exits.{no_ok, err_is}
 use Rattle.tc_close.specs.Decisions.{IsDecided, IsCloseCause}
-use Rattle.tc_close.specs.RowState.{RowState, held_of}
+use Rattle.tc_close.specs.RowState.{RowState}
 use Rattle.tc_close.specs.declared.decision.CloseFault.TheVariants.{NoMemory}
 use Rattle.tc_close.proofs.OnceLaws.{once_on}
 use Rattle.tc_close.proofs.decision.decided.Goals as goal
@@ -11,14 +11,8 @@ use Rattle.tc_close.proofs.decision.decided.Goals as goal
 pub verdict-requires-clause-alphabet : goal.verdict-requires-clause-alphabet
 verdict-requires-clause-alphabet g c = λ x o. c.alphabet.ensures ∙ (c.requires.machine x o).parts.same_symbols
 
-pub verdict-requires-clause-closure : goal.verdict-requires-clause-closure
-verdict-requires-clause-closure g c = subst (λ (s : RowState). IsClosure (held_of g.K.Over.is_of s) c.in_ok-closed.closed) (sym c.once.view_is) c.in_ok-closed.ensures.closure
-
-pub verdict-requires-clause-trees : goal.verdict-requires-clause-trees
-verdict-requires-clause-trees g c = subst (λ (s : RowState). length s.trees ≤ c.args.most) (sym c.once.view_is) c.in_ok-closed.ensures.few.0
-
-pub verdict-requires-clause-hedges : goal.verdict-requires-clause-hedges
-verdict-requires-clause-hedges g c = subst (λ (s : RowState). length s.hedges ≤ c.args.most) (sym c.once.view_is) c.in_ok-closed.ensures.few.1
+pub verdict-requires-clause-settled : goal.verdict-requires-clause-settled
+verdict-requires-clause-settled g c = subst (λ (s : RowState). IsSettled g.K.Over.is_of s c.in_ok-closed.closed c.args.most) (sym c.once.view_is) c.in_ok-closed.ensures.settled
 
 pub invariant_of-once : goal.invariant_of-once
 invariant_of-once g c = once_on g.K.Over.is_of c.once.inside.alike.firsts.items c.once.inside.wraps c.once.inside.rows c.verdict.new.rows c.verdict.ensures.same.0 c.once.invariant

@@ -1,22 +1,16 @@
-use Rattle.std.proofs.Common.{◌≤◌, length, subst, sym}
+use Rattle.std.proofs.Common.{subst, sym}
 use Rattle.tc_rows.specs.Triples.{Triple}
-use Rattle.tc_settle.specs.Closed.{IsClosure}
+use Rattle.tc_close.specs.Settling.{IsSettled}
 use Rattle.tc_settle.proofs.Exits.{no_ok, err_is}
 use Rattle.tc_close.specs.Certified.{IsProved}
 use Rattle.tc_close.specs.Decisions.{IsCloseCause}
-use Rattle.tc_close.specs.RowState.{RowState, held_of}
+use Rattle.tc_close.specs.RowState.{RowState}
 use Rattle.tc_close.specs.declared.decision.CloseFault.TheVariants.{NoMemory}
 use Rattle.tc_close.proofs.OnceLaws.{once_on}
 use Rattle.tc_close.proofs.proof.proved.Goals as goal
 
-pub told-requires-clause-closure : goal.told-requires-clause-closure
-told-requires-clause-closure g c = subst (λ (s : RowState). IsClosure (held_of g.K.Over.is_of s) c.in_ok-closed.closed) (sym c.once.view_is) c.in_ok-closed.ensures.closure
-
-pub told-requires-clause-trees : goal.told-requires-clause-trees
-told-requires-clause-trees g c = subst (λ (s : RowState). length s.trees ≤ c.args.most) (sym c.once.view_is) c.in_ok-closed.ensures.few.0
-
-pub told-requires-clause-hedges : goal.told-requires-clause-hedges
-told-requires-clause-hedges g c = subst (λ (s : RowState). length s.hedges ≤ c.args.most) (sym c.once.view_is) c.in_ok-closed.ensures.few.1
+pub told-requires-clause-settled : goal.told-requires-clause-settled
+told-requires-clause-settled g c = subst (λ (s : RowState). IsSettled g.K.Over.is_of s c.in_ok-closed.closed c.args.most) (sym c.once.view_is) c.in_ok-closed.ensures.settled
 
 pub invariant_of-once : goal.invariant_of-once
 invariant_of-once g c = once_on g.K.Over.is_of c.once.inside.alike.firsts.items c.once.inside.wraps c.once.inside.rows c.told.new.rows c.told.ensures.same.0 c.once.invariant

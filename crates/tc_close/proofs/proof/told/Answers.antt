@@ -1,4 +1,4 @@
-use Rattle.std.proofs.Common.{subst, sym}
+use Rattle.std.proofs.Common.{subst, sym, arith}
 use Rattle.tc_model.specs.declared.lists.CertData.{CertData}
 use Rattle.tc_settle.specs.Held.{SameRows}
 use Rattle.tc_close.specs.Certified.{IsLeastCertificate, IsTooLong}
@@ -9,8 +9,16 @@ use Rattle.tc_close.proofs.LeastHolds.{least_holds}
 use Rattle.tc_close.proofs.Pushed.{none_of, some_of}
 use Rattle.tc_close.proofs.proof.told.Goals as goal
 
-pub certified-requires-clause-closure : goal.certified-requires-clause-closure
-certified-requires-clause-closure g c = closure_on (held_of g.K.Over.is_of c.args.rows.now) (held_of g.K.Over.is_of c.verdict.new.rows) c.args.closed.now c.verdict.ensures.same c.requires.closure
+pub certified-requires : goal.certified-requires
+certified-requires g c =
+    let (grows, back) = c.verdict.ensures.same in
+    let settled = c.requires.settled in
+    record {
+      closure = closure_on (held_of g.K.Over.is_of c.args.rows.now) (held_of g.K.Over.is_of c.verdict.new.rows) c.args.closed.now c.verdict.ensures.same settled.closure;
+      trees = omega (arith, back.trees, settled.trees, settled.limit);
+      hedges = omega (arith, back.hedges, settled.hedges, settled.limit);
+      limit = omega arith;
+    }
 
 pub returns-in-Ok-Some-clause-proof : goal.returns-in-Ok-Some-clause-proof
 returns-in-Ok-Some-clause-proof g c = λ x o.

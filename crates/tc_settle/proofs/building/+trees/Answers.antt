@@ -18,38 +18,38 @@ pub build_tree-build_kids-requires : goal.build_tree-build_kids-requires
 build_tree-build_kids-requires g t c =
     let s = g.R.NumberedRows.held c.args.rows.now in
     let d = c.args.closed.now in
-    let kept = c.requires.closure.kept in
-    let e = slice_get_read d.trees.items (length d.trees.items) c.args.tree c.index.result.now refl (omega (arith, c.requires.tree, kept.made_tree_count)) c.index.ensures ∙ ap Some c.in-Wrap.is in
-    let part = tree_part s d c.args.tree (tree.Wrap c.in-Wrap.symbol c.in-Wrap.hedge) kept c.requires.tree e in
-    let cost : hedge_cost d c.in-Wrap.hedge + 1 ≡ tree_cost d c.args.tree = capped_low (hedge_cost d c.in-Wrap.hedge + 1) (tree_cost d c.args.tree) part.3 c.requires.near in
-    λ κs l. (omega (arith, c.decreases, cost), (l, (c.requires.closure, (c.requires.symbols, (part.1, omega (arith, cost, c.requires.near))))))
+    let kept = c.requires.rows.0.kept in
+    let e = slice_get_read d.trees.items (length d.trees.items) c.args.tree c.index.result.now refl (omega (arith, c.requires.near.0, kept.made_tree_count)) c.index.ensures ∙ ap Some c.in-Wrap.is in
+    let part = tree_part s d c.args.tree (tree.Wrap c.in-Wrap.symbol c.in-Wrap.hedge) kept c.requires.near.0 e in
+    let cost : hedge_cost d c.in-Wrap.hedge + 1 ≡ tree_cost d c.args.tree = capped_low (hedge_cost d c.in-Wrap.hedge + 1) (tree_cost d c.args.tree) part.3 c.requires.near.1 in
+    λ κs l. (omega (arith, c.decreases, cost), (l, (c.requires.rows, (part.1, omega (arith, cost, c.requires.near.1)))))
 
 pub build_tree-build_element-requires : goal.build_tree-build_element-requires
 build_tree-build_element-requires g t c =
     let s = g.R.NumberedRows.held c.args.rows.now in
     let d = c.args.closed.now in
-    let kept = c.requires.closure.kept in
-    let e = slice_get_read d.trees.items (length d.trees.items) c.args.tree c.index.result.now refl (omega (arith, c.requires.tree, kept.made_tree_count)) c.index.ensures ∙ ap Some c.in-Wrap.is in
-    let part = tree_part s d c.args.tree (tree.Wrap c.in-Wrap.symbol c.in-Wrap.hedge) kept c.requires.tree e in
-    omega (arith, part.0, c.requires.symbols)
+    let kept = c.requires.rows.0.kept in
+    let e = slice_get_read d.trees.items (length d.trees.items) c.args.tree c.index.result.now refl (omega (arith, c.requires.near.0, kept.made_tree_count)) c.index.ensures ∙ ap Some c.in-Wrap.is in
+    let part = tree_part s d c.args.tree (tree.Wrap c.in-Wrap.symbol c.in-Wrap.hedge) kept c.requires.near.0 e in
+    omega (arith, part.0, c.requires.rows.1)
 
 pub build_tree-returns-in-Text : goal.build_tree-returns-in-Text
 build_tree-returns-in-Text g t c =
     let s = g.R.NumberedRows.held c.args.rows.now in
     let d = c.args.closed.now in
-    let kept = c.requires.closure.kept in
-    let e = slice_get_read d.trees.items (length d.trees.items) c.args.tree c.index.result.now refl (omega (arith, c.requires.tree, kept.made_tree_count)) c.index.ensures ∙ ap Some c.in-Text.is in
-    let part = tree_part s d c.args.tree tree.Text kept c.requires.tree e in
+    let kept = c.requires.rows.0.kept in
+    let e = slice_get_read d.trees.items (length d.trees.items) c.args.tree c.index.result.now refl (omega (arith, c.requires.near.0, kept.made_tree_count)) c.index.ensures ∙ ap Some c.in-Text.is in
+    let part = tree_part s d c.args.tree tree.Text kept c.requires.near.0 e in
     (a_text (codes "t"), before_text _ none, made_text part.0, ap node_count (before_text _ none) ∙ sym part.1)
 
 pub build_tree-returns-in_ok-node-in-Wrap : goal.build_tree-returns-in_ok-node-in-Wrap
 build_tree-returns-in_ok-node-in-Wrap g t c =
     let s = g.R.NumberedRows.held c.args.rows.now in
     let d = c.args.closed.now in
-    let kept = c.requires.closure.kept in
-    let e = slice_get_read d.trees.items (length d.trees.items) c.args.tree c.index.result.now refl (omega (arith, c.requires.tree, kept.made_tree_count)) c.index.ensures ∙ ap Some c.in-Wrap.is in
-    let part = tree_part s d c.args.tree (tree.Wrap c.in-Wrap.symbol c.in-Wrap.hedge) kept c.requires.tree e in
-    let cost : hedge_cost d c.in-Wrap.hedge + 1 ≡ tree_cost d c.args.tree = capped_low (hedge_cost d c.in-Wrap.hedge + 1) (tree_cost d c.args.tree) part.3 c.requires.near in
+    let kept = c.requires.rows.0.kept in
+    let e = slice_get_read d.trees.items (length d.trees.items) c.args.tree c.index.result.now refl (omega (arith, c.requires.near.0, kept.made_tree_count)) c.index.ensures ∙ ap Some c.in-Wrap.is in
+    let part = tree_part s d c.args.tree (tree.Wrap c.in-Wrap.symbol c.in-Wrap.hedge) kept c.requires.near.0 e in
+    let cost : hedge_cost d c.in-Wrap.hedge + 1 ≡ tree_cost d c.args.tree = capped_low (hedge_cost d c.in-Wrap.hedge + 1) (tree_cost d c.args.tree) part.3 c.requires.near.1 in
     let kids = c.in_ok-kids-in-Wrap.ensures in
     let is = c.in_ok-node-in-Wrap.ensures in
     let below = trees c.in_ok-kids-in-Wrap.kids.now in
@@ -62,7 +62,7 @@ push_kids-loop-front-init g t c =
     let s = g.R.NumberedRows.held c.args.rows.now in
     let d = c.args.closed.now in
     record {
-      low = c.requires.hedge;
+      low = c.requires.near.0;
       count = ap (λ l. hedge_cost d c.args.hedge + node_count (trees (reverse l))) c.requires.none ∙ omega arith;
       made = λ f m. subst (λ w. IsMadeHedge s c.args.alphabet.now w c.args.hedge) (sym (ap (λ l. beside f (trees (reverse l))) c.requires.none ∙ beside_none f)) m;
     }
@@ -72,26 +72,26 @@ push_kids-build_tree-requires g t c =
     let s = g.R.NumberedRows.held c.args.rows.now in
     let d = c.args.closed.now in
     let v = c.loop-front.invariant in
-    let part = hedge_part s d c.loop-front.rest (hedge.Append c.in-Some.front c.in-Some.tree) c.requires.closure.kept v.low c.in-Some.ensures in
-    let sum : hedge_cost d c.in-Some.front + tree_cost d c.in-Some.tree ≡ hedge_cost d c.loop-front.rest = capped_low (hedge_cost d c.in-Some.front + tree_cost d c.in-Some.tree) (hedge_cost d c.loop-front.rest) part.3 (omega (arith, v.count, c.requires.near)) in
-    λ κs l. (omega (arith, c.decreases, sum, v.count), (l, (c.requires.closure, (c.requires.symbols, (part.1, omega (arith, sum, v.count, c.requires.near))))))
+    let part = hedge_part s d c.loop-front.rest (hedge.Append c.in-Some.front c.in-Some.tree) c.requires.rows.0.kept v.low c.in-Some.ensures in
+    let sum : hedge_cost d c.in-Some.front + tree_cost d c.in-Some.tree ≡ hedge_cost d c.loop-front.rest = capped_low (hedge_cost d c.in-Some.front + tree_cost d c.in-Some.tree) (hedge_cost d c.loop-front.rest) part.3 (omega (arith, v.count, c.requires.near.1)) in
+    λ κs l. (omega (arith, c.decreases, sum, v.count), (l, (c.requires.rows, (part.1, omega (arith, sum, v.count, c.requires.near.1)))))
 
 pub push_kids-loop-front-smaller : goal.push_kids-loop-front-smaller
 push_kids-loop-front-smaller g t c =
     let s = g.R.NumberedRows.held c.args.rows.now in
     let d = c.args.closed.now in
     let v = c.loop-front.invariant in
-    let part = hedge_part s d c.loop-front.rest (hedge.Append c.in-Some.front c.in-Some.tree) c.requires.closure.kept v.low c.in-Some.ensures in
-    let sum : hedge_cost d c.in-Some.front + tree_cost d c.in-Some.tree ≡ hedge_cost d c.loop-front.rest = capped_low (hedge_cost d c.in-Some.front + tree_cost d c.in-Some.tree) (hedge_cost d c.loop-front.rest) part.3 (omega (arith, v.count, c.requires.near)) in
-    omega (arith, sum, tree_costs_some s d c.in-Some.tree c.requires.closure.kept part.1)
+    let part = hedge_part s d c.loop-front.rest (hedge.Append c.in-Some.front c.in-Some.tree) c.requires.rows.0.kept v.low c.in-Some.ensures in
+    let sum : hedge_cost d c.in-Some.front + tree_cost d c.in-Some.tree ≡ hedge_cost d c.loop-front.rest = capped_low (hedge_cost d c.in-Some.front + tree_cost d c.in-Some.tree) (hedge_cost d c.loop-front.rest) part.3 (omega (arith, v.count, c.requires.near.1)) in
+    omega (arith, sum, tree_costs_some s d c.in-Some.tree c.requires.rows.0.kept part.1)
 
 pub push_kids-loop-front-preserved : goal.push_kids-loop-front-preserved
 push_kids-loop-front-preserved g t c =
     let s = g.R.NumberedRows.held c.args.rows.now in
     let d = c.args.closed.now in
     let v = c.loop-front.invariant in
-    let part = hedge_part s d c.loop-front.rest (hedge.Append c.in-Some.front c.in-Some.tree) c.requires.closure.kept v.low c.in-Some.ensures in
-    let sum : hedge_cost d c.in-Some.front + tree_cost d c.in-Some.tree ≡ hedge_cost d c.loop-front.rest = capped_low (hedge_cost d c.in-Some.front + tree_cost d c.in-Some.tree) (hedge_cost d c.loop-front.rest) part.3 (omega (arith, v.count, c.requires.near)) in
+    let part = hedge_part s d c.loop-front.rest (hedge.Append c.in-Some.front c.in-Some.tree) c.requires.rows.0.kept v.low c.in-Some.ensures in
+    let sum : hedge_cost d c.in-Some.front + tree_cost d c.in-Some.tree ≡ hedge_cost d c.loop-front.rest = capped_low (hedge_cost d c.in-Some.front + tree_cost d c.in-Some.tree) (hedge_cost d c.loop-front.rest) part.3 (omega (arith, v.count, c.requires.near.1)) in
     let built = c.in_ok-kid.ensures in
     let more = count_more c.loop-front.kids.items c.in_ok-kid.kid in
     let count : hedge_cost d c.in-Some.front + node_count (trees (reverse (c.loop-front.kids.items ++ c.in_ok-kid.kid ∷ []))) ≡ hedge_cost d c.args.hedge = omega (arith, more, built.3, sum, v.count) in
@@ -108,5 +108,5 @@ push_kids-returns g t c =
     let s = g.R.NumberedRows.held c.args.rows.now in
     let d = c.args.closed.now in
     let v = c.loop-front.invariant in
-    let part = hedge_part s d c.loop-front.rest hedge.None c.requires.closure.kept v.low c.in_default.ensures in
+    let part = hedge_part s d c.loop-front.rest hedge.None c.requires.rows.0.kept v.low c.in_default.ensures in
     (v.made none (made_none part.0), omega (arith, v.count, part.1))

@@ -23,7 +23,10 @@ pub build_tree-requires-clause-near : goal.build_tree-requires-clause-near
 build_tree-requires-clause-near g c =
     let d = c.args.closed.now in
     let x : c.index.result.now ≡ tree_cost d c.args.tree = get_or_read d.tree_costs.items _ _ (omega (arith, c.requires.tree, c.requires.closure.kept.tree_count)) c.index.ensures 0 in
-    omega (arith, x, c.if-index-gt-MOST_NODES.false)
+    (c.requires.tree, omega (arith, x, c.if-index-gt-MOST_NODES.false))
+
+pub build_tree-requires-clause-rows : goal.build_tree-requires-clause-rows
+build_tree-requires-clause-rows g c = (c.requires.closure, c.requires.symbols)
 
 pub returns-clause-made : goal.returns-clause-made
 returns-clause-made g c = c.in_ok-build_tree.ensures

@@ -2,7 +2,7 @@ use Rattle.std.proofs.Common.{arith}
 use Rattle.tc_settle.proofs.levels.all_far.Goals as goal
 
 pub loop-hedge-init : goal.loop-hedge-init
-loop-hedge-init g c = c.requires.far
+loop-hedge-init g c = c.requires
 
 pub returns-then-hedge-len-clause-whole : goal.returns-then-hedge-len-clause-whole
 returns-then-hedge-len-clause-whole g c =

@@ -1,10 +1,8 @@
-use Rattle.std.proofs.Common.{◌≡◌, ◌<◌, ℕ}
-use Rattle.tc_settle.specs.Settled.{IsWrapDone, Steps}
+use Rattle.std.proofs.Common.{◌<◌, ℕ}
+use Rattle.tc_settle.specs.Settled.{IsWrapDone, TreesTried}
 use Rattle.tc_settle.proofs.runs.wrap_symbols.Given as goal
 
 abbrev pub invariant-loop-symbol : goal.invariant-loop-symbol
-invariant-loop-symbol g l = record {
-  steps : Steps l.most l.cost (g.R.NumberedRows.held l.fn.rows) l.fn.closed (g.R.NumberedRows.held l.rows) l.closed;
-  hedges : (g.R.NumberedRows.held l.rows).hedges ≡ (g.R.NumberedRows.held l.fn.rows).hedges;
-  done : (a : ℕ) → a < l.symbol → IsWrapDone (g.R.NumberedRows.held l.rows) l.closed a l.hedge;
-}
+invariant-loop-symbol g l =
+    TreesTried l.most l.cost (g.R.NumberedRows.held l.fn.rows) l.fn.closed (g.R.NumberedRows.held l.rows) l.closed
+    ((a : ℕ) → a < l.symbol → IsWrapDone (g.R.NumberedRows.held l.rows) l.closed a l.hedge)

@@ -20,11 +20,8 @@ returns-in_err-settle-clause-cause g c =
     let rows = c.settle.new.rows in
     err_is c.from_residual-in_err-settle.result _ (IsCause (g.R.NumberedRows.is_full rows) c.args.most (g.R.NumberedRows.held rows)) c.from_residual-in_err-settle.ensures.1 c.in_err-settle.ensures.cause
 
-pub settle-requires-clause-begun : goal.settle-requires-clause-begun
-settle-requires-clause-begun g c = c.in_ok-closed.ensures.begun
-
-pub settle-requires-clause-most : goal.settle-requires-clause-most
-settle-requires-clause-most g c = c.requires.most
+pub settle-requires : goal.settle-requires
+settle-requires g c = c.in_ok-closed.ensures.begun
 
 pub returns-clause-whole : goal.returns-clause-whole
 returns-clause-whole g c = c.in_ok-settle.ensures.whole

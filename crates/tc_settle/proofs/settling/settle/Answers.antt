@@ -26,26 +26,20 @@ returns-in_err-wrapped-clause-cause g c =
 
 -- cost by cost
 pub loop-cost-init : goal.loop-cost-init
-loop-cost-init g c = begun_ready c.args.most (g.R.NumberedRows.held c.args.rows.now) c.args.closed.now c.in_ok-starts.starts.items c.requires.begun c.in_ok-starts.ensures
+loop-cost-init g c = begun_ready c.args.most (g.R.NumberedRows.held c.args.rows.now) c.args.closed.now c.in_ok-starts.starts.items c.requires c.in_ok-starts.ensures
 
 pub level-requires-clause-ready : goal.level-requires-clause-ready
 level-requires-clause-ready g c = c.loop-cost.invariant
 
 pub reach-requires-clause-hedges : goal.reach-requires-clause-hedges
-reach-requires-clause-hedges g c = let ready = c.in_ok-wrapped.ensures.ready in λ i j l low. ready.kept.hedges_in_order i j l (omega (arith, low, ready.kept.hedge_count))
+reach-requires-clause-hedges g c =
+    let ready = c.in_ok-wrapped.ensures.ready in
+    (λ i j l low. ready.kept.hedges_in_order i j l (omega (arith, low, ready.kept.hedge_count)), λ u low. omega (arith, ready.hedges u (omega (arith, low, ready.kept.hedge_count)), c.loop-cost-test.true))
 
 pub reach-requires-clause-trees : goal.reach-requires-clause-trees
-reach-requires-clause-trees g c = let ready = c.in_ok-wrapped.ensures.ready in λ i j l low. ready.kept.trees_in_order i j l (omega (arith, low, ready.kept.tree_count))
-
-pub reach-requires-clause-hedges_most : goal.reach-requires-clause-hedges_most
-reach-requires-clause-hedges_most g c =
+reach-requires-clause-trees g c =
     let ready = c.in_ok-wrapped.ensures.ready in
-    λ u low. omega (arith, ready.hedges u (omega (arith, low, ready.kept.hedge_count)), c.loop-cost-test.true)
-
-pub reach-requires-clause-trees_most : goal.reach-requires-clause-trees_most
-reach-requires-clause-trees_most g c =
-    let ready = c.in_ok-wrapped.ensures.ready in
-    λ u low. omega (arith, (ready.trees u (omega (arith, low, ready.kept.tree_count))).1, c.loop-cost-test.true)
+    (λ i j l low. ready.kept.trees_in_order i j l (omega (arith, low, ready.kept.tree_count)), λ u low. omega (arith, (ready.trees u (omega (arith, low, ready.kept.tree_count))).1, c.loop-cost-test.true))
 
 pub returns-then-reach-cost-clause-whole : goal.returns-then-reach-cost-clause-whole
 returns-then-reach-cost-clause-whole g c =
@@ -58,8 +52,8 @@ pub loop-cost-preserved : goal.loop-cost-preserved
 loop-cost-preserved g c = c.in_ok-wrapped.ensures.ready
 
 -- costs past 2,000
-pub all_far-requires-clause-far : goal.all_far-requires-clause-far
-all_far-requires-clause-far g c =
+pub all_far-requires : goal.all_far-requires
+all_far-requires g c =
     let s = g.R.NumberedRows.held c.loop-cost.rows in
     let all : c.loop-cost.cost ≡ 2001 = omega arith in
     let ready = subst (λ k. IsReady c.args.most k s c.loop-cost.closed c.loop-cost.starts.items c.loop-cost.wrapped) all c.loop-cost.invariant in

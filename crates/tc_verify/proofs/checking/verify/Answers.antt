@@ -10,9 +10,12 @@ pub returns-in-Some-clause-cause : goal.returns-in-Some-clause-cause
 returns-in-Some-clause-cause c =
     λ x is. unfit_rejected x c.shape.result c.args.cert.now (c.shape.ensures x is) c.in-Some.line c.told.result c.told.ensures c.in-Some.ensures
 
-pub new-requires-clause-fit : goal.new-requires-clause-fit
-new-requires-clause-fit c =
-    λ x is. all_fit x c.shape.result c.args.cert.now (c.shape.ensures x is) c.in_default.ensures
+pub new-requires : goal.new-requires
+new-requires c = record {
+  machine = c.requires.machine;
+  formed = c.requires.formed;
+  fit = λ x is. all_fit x c.shape.result c.args.cert.now (c.shape.ensures x is) c.in_default.ensures;
+}
 
 pub returns-in_err-checker-clause-cause : goal.returns-in_err-checker-clause-cause
 returns-in_err-checker-clause-cause c =

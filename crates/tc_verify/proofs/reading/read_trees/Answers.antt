@@ -8,7 +8,7 @@ use Rattle.tc_verify.proofs.HandedOn.{not_done}
 use Rattle.tc_verify.proofs.reading.read_trees.Goals as goal
 
 pub read-requires : goal.read-requires
-read-requires c = tree_fits_room c.args.machine.now c.args.cert.now c.requires.formed c.requires.fit c.requires.machine c.loop-place.place c.get.result.now c.get.ensures c.in_ok-room.room.room c.in_ok-room.ensures
+read-requires c = tree_fits_room c.args.machine.now c.args.cert.now c.requires.fit.formed c.requires.fit.fit c.requires.fit.machine c.loop-place.place c.get.result.now c.get.ensures c.in_ok-room.room.room c.in_ok-room.ensures
 
 pub loop-place-preserved : goal.loop-place-preserved
 loop-place-preserved c =

@@ -1,6 +1,6 @@
 use Rattle.std.proofs.Common.{◌<◌, ◌∙◌, Some, ap, length, sym, subst}
 use Rattle.tc_close.specs.RowState.{RowState, held_of}
-use Rattle.tc_close.specs.Once.{IsWrapTold}
+use Rattle.tc_settle.specs.Wraps.{IsWrapTold}
 use Rattle.tc_close.proofs.OnceLaws.{once_more, told_of_first}
 use Rattle.tc_close.proofs.once.OnceRows.known_wrap.Goals as goal
 

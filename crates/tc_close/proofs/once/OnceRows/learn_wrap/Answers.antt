@@ -1,6 +1,6 @@
 use Rattle.std.proofs.Common.{◌<◌, sym, subst, length}
 use Rattle.tc_close.specs.RowState.{RowState, held_of}
-use Rattle.tc_close.specs.Once.{IsWrapTold}
+use Rattle.tc_settle.specs.Wraps.{IsWrapTold}
 use Rattle.tc_close.proofs.OnceLaws.{once_more}
 use Rattle.tc_close.proofs.once.OnceRows.learn_wrap.Goals as goal
 

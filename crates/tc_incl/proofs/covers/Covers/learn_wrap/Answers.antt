@@ -1,6 +1,6 @@
 use Rattle.std.proofs.Common.{◌<◌, sym, subst, length, refl}
 use Rattle.tc_incl.specs.Covers.{State, held_of, state_of}
-use Rattle.tc_incl.specs.Wraps.{IsWrapTold}
+use Rattle.tc_settle.specs.Wraps.{IsWrapTold}
 use Rattle.tc_incl.proofs.Alike.{known_more}
 use Rattle.tc_incl.proofs.covers.Covers.learn_wrap.Goals as goal
 

@@ -10,17 +10,17 @@ empty_row-requires-clause-rows c = are_rows c.requires.checked
 pub empty_row-requires-clause-room : goal.empty_row-requires-clause-room
 empty_row-requires-clause-room c = hedge_room c.requires.checked
 
-pub returns-in-Ok-clause-checked : goal.returns-in-Ok-clause-checked
-returns-in-Ok-clause-checked c = stays c.requires.checked c.empty_row.new.self c.empty_row.ensures.same c.empty_row.ensures.rows (c.empty_row.ensures.fixed c.requires.checked.fixed) c.empty_row.new.out c.args.self.now.new_tree c.empty_row.ensures.room (same_room c.args.self.now.new_tree.room)
+pub returns-in-Ok-clause-stays : goal.returns-in-Ok-clause-stays
+returns-in-Ok-clause-stays c = record {
+  checked = stays c.requires.checked c.empty_row.new.self c.empty_row.ensures.same c.empty_row.ensures.rows (c.empty_row.ensures.fixed c.requires.checked.fixed) c.empty_row.new.out c.args.self.now.new_tree c.empty_row.ensures.room (same_room c.args.self.now.new_tree.room);
+  same = same_listing c.requires.checked c.empty_row.new.self c.empty_row.ensures.same c.empty_row.ensures.rows (c.empty_row.ensures.fixed c.requires.checked.fixed) (view_of c.args.self.now) refl;
+}
 
-pub returns-in-Ok-clause-same : goal.returns-in-Ok-clause-same
-returns-in-Ok-clause-same c = same_listing c.requires.checked c.empty_row.new.self c.empty_row.ensures.same c.empty_row.ensures.rows (c.empty_row.ensures.fixed c.requires.checked.fixed) (view_of c.args.self.now) refl
-
-pub returns-in-Err-clause-checked : goal.returns-in-Err-clause-checked
-returns-in-Err-clause-checked c = stays c.requires.checked c.empty_row.new.self c.empty_row.ensures.same c.empty_row.ensures.rows (c.empty_row.ensures.fixed c.requires.checked.fixed) c.empty_row.new.out c.args.self.now.new_tree c.empty_row.ensures.room (same_room c.args.self.now.new_tree.room)
-
-pub returns-in-Err-clause-same : goal.returns-in-Err-clause-same
-returns-in-Err-clause-same c = same_listing c.requires.checked c.empty_row.new.self c.empty_row.ensures.same c.empty_row.ensures.rows (c.empty_row.ensures.fixed c.requires.checked.fixed) (view_of c.args.self.now) refl
+pub returns-in-Err-clause-stays : goal.returns-in-Err-clause-stays
+returns-in-Err-clause-stays c = record {
+  checked = stays c.requires.checked c.empty_row.new.self c.empty_row.ensures.same c.empty_row.ensures.rows (c.empty_row.ensures.fixed c.requires.checked.fixed) c.empty_row.new.out c.args.self.now.new_tree c.empty_row.ensures.room (same_room c.args.self.now.new_tree.room);
+  same = same_listing c.requires.checked c.empty_row.new.self c.empty_row.ensures.same c.empty_row.ensures.rows (c.empty_row.ensures.fixed c.requires.checked.fixed) (view_of c.args.self.now) refl;
+}
 
 pub returns-in-Ok-clause-exact : goal.returns-in-Ok-clause-exact
 returns-in-Ok-clause-exact c = empty_found c.requires.checked (view_of c.args.self.now) refl c.empty_row.new.self (c.empty_row.ensures.fixed c.requires.checked.fixed) c.empty_row.new.out c.in-Ok.ensures.row c.has.result c.numbers.result.now c.numbers.ensures c.has.ensures

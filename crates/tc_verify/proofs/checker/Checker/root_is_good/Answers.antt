@@ -16,11 +16,11 @@ root_ok-requires-clause-rows c = are_rows c.requires.checked
 pub root_ok-requires-clause-tree : goal.root_ok-requires-clause-tree
 root_ok-requires-clause-tree c = λ x a. (tree_stands c.requires.checked c.args.tree c.index-root.result.now (tree_at c.args.self.now.trees.items c.args.tree c.index-root.result.now c.requires.tree c.index-root.ensures) x a).0
 
-pub returns-else-not-admitted-clause-checked : goal.returns-else-not-admitted-clause-checked
-returns-else-not-admitted-clause-checked c = stays c.requires.checked c.root_ok.new.self c.root_ok.ensures.same c.root_ok.ensures.rows c.root_ok.ensures.outputs c.args.self.now.new_hedge c.args.self.now.new_tree (same_room c.args.self.now.new_hedge.room) (same_room c.args.self.now.new_tree.room)
-
-pub returns-else-not-admitted-clause-same : goal.returns-else-not-admitted-clause-same
-returns-else-not-admitted-clause-same c = same_listing c.requires.checked c.root_ok.new.self c.root_ok.ensures.same c.root_ok.ensures.rows c.root_ok.ensures.outputs (view_of c.args.self.now) refl
+pub returns-else-not-admitted-clause-stays : goal.returns-else-not-admitted-clause-stays
+returns-else-not-admitted-clause-stays c = record {
+  checked = stays c.requires.checked c.root_ok.new.self c.root_ok.ensures.same c.root_ok.ensures.rows c.root_ok.ensures.outputs c.args.self.now.new_hedge c.args.self.now.new_tree (same_room c.args.self.now.new_hedge.room) (same_room c.args.self.now.new_tree.room);
+  same = same_listing c.requires.checked c.root_ok.new.self c.root_ok.ensures.same c.root_ok.ensures.rows c.root_ok.ensures.outputs (view_of c.args.self.now) refl;
+}
 
 pub returns-else-not-admitted-clause-exact : goal.returns-else-not-admitted-clause-exact
 returns-else-not-admitted-clause-exact c = root_passes c.requires.checked (view_of c.args.self.now) refl c.args.tree c.index-root.result.now (tree_at c.args.self.now.trees.items c.args.tree c.index-root.result.now c.requires.tree c.index-root.ensures) c.admitted.result c.root_ok.result c.admitted.ensures c.if-not-admitted.false c.root_ok.ensures.passing

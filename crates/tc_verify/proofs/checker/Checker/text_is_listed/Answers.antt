@@ -10,23 +10,23 @@ text_row-requires-clause-rows c = are_rows c.requires.checked
 pub text_row-requires-clause-room : goal.text_row-requires-clause-room
 text_row-requires-clause-room c = tree_room c.requires.checked
 
-pub returns-in-Ok-true-clause-checked : goal.returns-in-Ok-true-clause-checked
-returns-in-Ok-true-clause-checked c = stays c.requires.checked c.text_row.new.self c.text_row.ensures.same c.text_row.ensures.rows (c.text_row.ensures.fixed c.requires.checked.fixed) c.args.self.now.new_hedge c.text_row.new.out (same_room c.args.self.now.new_hedge.room) c.text_row.ensures.room
+pub returns-in-Ok-true-clause-stays : goal.returns-in-Ok-true-clause-stays
+returns-in-Ok-true-clause-stays c = record {
+  checked = stays c.requires.checked c.text_row.new.self c.text_row.ensures.same c.text_row.ensures.rows (c.text_row.ensures.fixed c.requires.checked.fixed) c.args.self.now.new_hedge c.text_row.new.out (same_room c.args.self.now.new_hedge.room) c.text_row.ensures.room;
+  same = same_listing c.requires.checked c.text_row.new.self c.text_row.ensures.same c.text_row.ensures.rows (c.text_row.ensures.fixed c.requires.checked.fixed) (view_of c.args.self.now) refl;
+}
 
-pub returns-in-Ok-true-clause-same : goal.returns-in-Ok-true-clause-same
-returns-in-Ok-true-clause-same c = same_listing c.requires.checked c.text_row.new.self c.text_row.ensures.same c.text_row.ensures.rows (c.text_row.ensures.fixed c.requires.checked.fixed) (view_of c.args.self.now) refl
+pub returns-in-Ok-false-clause-stays : goal.returns-in-Ok-false-clause-stays
+returns-in-Ok-false-clause-stays c = record {
+  checked = stays c.requires.checked c.text_row.new.self c.text_row.ensures.same c.text_row.ensures.rows (c.text_row.ensures.fixed c.requires.checked.fixed) c.args.self.now.new_hedge c.text_row.new.out (same_room c.args.self.now.new_hedge.room) c.text_row.ensures.room;
+  same = same_listing c.requires.checked c.text_row.new.self c.text_row.ensures.same c.text_row.ensures.rows (c.text_row.ensures.fixed c.requires.checked.fixed) (view_of c.args.self.now) refl;
+}
 
-pub returns-in-Ok-false-clause-checked : goal.returns-in-Ok-false-clause-checked
-returns-in-Ok-false-clause-checked c = stays c.requires.checked c.text_row.new.self c.text_row.ensures.same c.text_row.ensures.rows (c.text_row.ensures.fixed c.requires.checked.fixed) c.args.self.now.new_hedge c.text_row.new.out (same_room c.args.self.now.new_hedge.room) c.text_row.ensures.room
-
-pub returns-in-Ok-false-clause-same : goal.returns-in-Ok-false-clause-same
-returns-in-Ok-false-clause-same c = same_listing c.requires.checked c.text_row.new.self c.text_row.ensures.same c.text_row.ensures.rows (c.text_row.ensures.fixed c.requires.checked.fixed) (view_of c.args.self.now) refl
-
-pub returns-in-Err-clause-checked : goal.returns-in-Err-clause-checked
-returns-in-Err-clause-checked c = stays c.requires.checked c.text_row.new.self c.text_row.ensures.same c.text_row.ensures.rows (c.text_row.ensures.fixed c.requires.checked.fixed) c.args.self.now.new_hedge c.text_row.new.out (same_room c.args.self.now.new_hedge.room) c.text_row.ensures.room
-
-pub returns-in-Err-clause-same : goal.returns-in-Err-clause-same
-returns-in-Err-clause-same c = same_listing c.requires.checked c.text_row.new.self c.text_row.ensures.same c.text_row.ensures.rows (c.text_row.ensures.fixed c.requires.checked.fixed) (view_of c.args.self.now) refl
+pub returns-in-Err-clause-stays : goal.returns-in-Err-clause-stays
+returns-in-Err-clause-stays c = record {
+  checked = stays c.requires.checked c.text_row.new.self c.text_row.ensures.same c.text_row.ensures.rows (c.text_row.ensures.fixed c.requires.checked.fixed) c.args.self.now.new_hedge c.text_row.new.out (same_room c.args.self.now.new_hedge.room) c.text_row.ensures.room;
+  same = same_listing c.requires.checked c.text_row.new.self c.text_row.ensures.same c.text_row.ensures.rows (c.text_row.ensures.fixed c.requires.checked.fixed) (view_of c.args.self.now) refl;
+}
 
 pub returns-in-Ok-true-clause-exact : goal.returns-in-Ok-true-clause-exact
 returns-in-Ok-true-clause-exact c =

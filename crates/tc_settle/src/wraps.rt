@@ -3,20 +3,21 @@ ghost use Rattle.std.specs.Prelude.{◌≡◌, ◌⊎◌, [], ℕ, Option, Match
 
 use std::alloc::Global;
 
-/// The rows of elements around one list of trees, by their symbols, as far as they are known.
+/// The rows of elements around one list of trees, by the numbers of their symbols or of the kinds of these, as far as they are
+/// known.
 #[derive(Drop)]
 pub struct Wraps {
     /// The number of the list of trees.
     hedge: u32,
-    /// For each symbol the number of the row; none where the element is dead.
+    /// For each symbol, or kind, the number of the row; none where the element is dead.
     made: Vec<Option<u32>>,
 }
 
 impl Wraps {
-    ghost use Rattle.tc_close.specs.Once.{IsKnown};
+    ghost use Rattle.tc_settle.specs.Wraps.{IsKnown};
 
     /// Nothing is known.
-    pub(crate) fn new(alloc: Global) -> Wraps
+    pub fn new(alloc: Global) -> Wraps
         ensures { result.made.items ≡ [] }
     {
         Wraps {
@@ -26,7 +27,7 @@ impl Wraps {
     }
 
     /// What came of an element of a symbol around a list of trees, if it is known.
-    pub(crate) fn known(&self, symbol: u32, hedge: u32) -> Option<Option<u32>>
+    pub fn known(&self, symbol: u32, hedge: u32) -> Option<Option<u32>>
         ensures { MatchOption result (Unit {0}) (λ made. IsKnown self.now hedge symbol made) }
     {
         if hedge != self.hedge {
@@ -40,7 +41,7 @@ impl Wraps {
 
     /// What came of an element of a symbol around a list of trees is known from now on, if the symbols before are known too
     /// and there is memory for it, and what came of elements around other lists no longer.
-    pub(crate) fn learn(&mut self, symbol: u32, hedge: u32, made: Option<u32>)
+    pub fn learn(&mut self, symbol: u32, hedge: u32, made: Option<u32>)
         ensures { (h a : ℕ) (o : Option ℕ) → IsKnown self.new h a o → IsKnown self.old h a o
             ⊎ ((h ≡ hedge) × (a ≡ symbol) × (o ≡ made)) }
     {
