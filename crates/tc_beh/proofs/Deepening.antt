@@ -30,7 +30,7 @@ use Rattle.tc_beh.proofs.Starts.{StartsBelow, stay_first, starts}
 
 -- a place with other sets for the named bodies
 pub with_named : (x : Triple) (p : Place) (sets : Bor (List Matrix)) → IsGroundIn x p → AreNamedSets p sets.now
-    → IsPlaceIn x (record { rules = p.rules; output = p.output; alphabet = p.alphabet; outputs = p.outputs; text = p.text; named = sets; node = p.node; bears = p.bears; entries = p.entries; looks = p.looks; above = p.above })
+    → IsPlaceIn x (record p { named = sets })
 with_named x p sets ok n = record {
   rules = ok.rules;
   hedge = ok.hedge;

@@ -49,7 +49,7 @@ each_in_sheet s f c = elim (has_either (flat_map (λ r. eaches_in r.body) s.rule
   | inr h ↦ omega (arith, each_in_named f s.named h)
 ]
 
-rule_in_rules : (rules : List Rule) (i : ℕ) (q : Rule) → slice_get rules i ≡ Some q → depth_in q.body ≤ deepest_rule rules
+pub rule_in_rules : (rules : List Rule) (i : ℕ) (q : Rule) → slice_get rules i ≡ Some q → depth_in q.body ≤ deepest_rule rules
 rule_in_rules [] i q e = absurd (cc)
 rule_in_rules (r ∷ rules) zero q e = let same : depth_in r.body ≡ depth_in q.body = ap (λ (w : Rule). depth_in w.body) (same_Some r q e) in omega (arith, same)
 rule_in_rules (r ∷ rules) (suc i) q e = omega (arith, rule_in_rules rules i q e)

@@ -8,7 +8,7 @@ use Rattle.tc_beh.specs.Heights.{depth_in, depth_in_branches}
 use Rattle.tc_beh.specs.Opening.{Open, IsOpenAt}
 use Rattle.tc_beh.specs.declared.bodies.Place.{Place}
 
-depth_then : (a b : Body) → depth_in (body_then a b) ≡ max (depth_in a) (depth_in b)
+pub depth_then : (a b : Body) → depth_in (body_then a b) ≡ max (depth_in a) (depth_in b)
 depth_then no_instruction b = omega arith
 depth_then (put_text t a) b = depth_then a b
 depth_then (put_element n i a) b = omega (arith, depth_then a b)

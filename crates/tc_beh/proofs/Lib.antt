@@ -11,6 +11,7 @@ pub mod Placed
 pub mod Depths
 pub mod Limits
 pub mod Instructed
+pub mod RunLaws
 pub mod Called
 pub mod Meant
 pub mod Sizes
@@ -38,9 +39,11 @@ pub mod Nodes
 pub mod Coming
 pub mod Before
 pub mod InOrder
+pub mod RowBits
 pub mod SameParts
 pub mod LeftOut
 mod Led
+mod Bundling
 pub mod TreeRows
 pub mod Wrapped
 pub mod WrapRows

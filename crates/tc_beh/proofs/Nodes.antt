@@ -1,7 +1,8 @@
 -- The place of a node, and what is put there from a state of a move above it.
-use Rattle.std.proofs.Common.{◌≡◌, ◌<◌, ◌≤◌, ◌+◌, ◌*◌, ◌⊎◌, inl, inr, ℕ, List, length, Bool, subst, sym, ap, ◌∙◌, refl, arith, All}
+use Rattle.std.proofs.Common.{◌≡◌, ◌<◌, ◌≤◌, ◌+◌, ◌*◌, ◌⊎◌, inl, inr, ℕ, List, Option, length, Bool, true, subst, sym, ap, ◌∙◌, refl, arith, All}
 use Rattle.std.proofs.lemmas.Bool.{cases_order}
 use Rattle.std.proofs.lemmas.List.{with_items_is}
+use Rattle.std.specs.Global.{Vec}
 use Rattle.std.specs.Vec.{with_items}
 use Rattle.tc_mat.specs.Matrix.{Matrix, IsIdentity}
 use Rattle.tc_mat.specs.Held.{Held}
@@ -29,7 +30,10 @@ use Rattle.tc_beh.specs.Machines.{IsMachineOf}
 use Rattle.tc_beh.specs.Opening.{Open, IsOpenAt, IsBeside, Remembers, AreLinked}
 use Rattle.tc_beh.specs.Places.{IsPlaceIn, kind_of, below_at, below_of, entries_by}
 use Rattle.tc_beh.specs.Putting.{has, Extends as Puts, IsCalled}
+use Rattle.tc_beh.specs.Bundles.{AreStepsOf}
+use Rattle.tc_beh.specs.declared.bundles.Bundles.{Bundles}
 use Rattle.tc_beh.specs.RowsOf.{IsWork}
+use Rattle.tc_beh.specs.Runs.{AreRuns}
 use Rattle.tc_beh.specs.Stands.{IsRulesIn}
 use Rattle.tc_beh.specs.Templates.{AreCalled}
 use Rattle.tc_beh.specs.declared.bodies.Place.{Place}
@@ -37,6 +41,7 @@ use Rattle.tc_beh.specs.declared.entries.Node.{Node}
 use Rattle.tc_rules.specs.declared.known_rules.KnownRules.{KnownRules}
 use Rattle.tc_beh.specs.declared.machine.Machine.{Machine}
 use Rattle.tc_beh.specs.declared.rows.Work.{Work}
+use Rattle.tc_beh.specs.declared.runs.Run.{Run}
 use Rattle.tc_beh.proofs.OpenLaws.{linked_more}
 use Rattle.tc_beh.proofs.Starts.{StartsBelow, stay_first, identity_begun, chosen_starts, stay_starts, starts, below_starts}
 
@@ -64,7 +69,7 @@ module _ (x : Triple) (m : Machine) (held : Held) (w : Work) (n : Node) (ok : Ar
   abbrev K : Kind
   K = (letter_of n.letter).kind
 
-  module _ (text : Matrix) (sets : List Matrix) (under : ℕ) (p : Place) (made : IsMadeOf m held text sets n under p) where
+  module _ (text : Matrix) (sets : List Matrix) {runs : List (Option Run)} (under : ℕ) (p : Place) (made : IsMadeOf m held text sets runs n under p) where
     kind_is : (k : NodeKind) → kind_of p.node ≡ k → node_of K ≡ k
     kind_is k e = sym made.node ∙ e
 
@@ -150,7 +155,7 @@ module _ (x : Triple) (m : Machine) (held : Held) (w : Work) (is : IsWork x m he
       }
 
   module _ (o : Open) (same : IsBeside m.output held w.sets o) where
-    pub work_kept : (rules : KnownRules) → AreKnown x.symbols x.rules rules → IsWork x m held (record { text = w.text; set = w.set; named = w.named; sets = o; known = rules })
+    pub work_kept : (rules : KnownRules) → AreKnown x.symbols x.rules rules → IsWork x m held (record w { sets = o; known = rules })
     work_kept rules known = record {
       text = is.text;
       text_size = is.text_size;
@@ -163,13 +168,32 @@ module _ (x : Triple) (m : Machine) (held : Held) (w : Work) (is : IsWork x m he
       remembers = same.remembers is.remembers;
       links = same.links is.links;
       known = known;
+      bundles = is.bundles;
+      runs = is.runs;
+    }
+
+    pub work_read : (runs : Vec (Option Run)) → AreRuns x runs.items → IsWork x m held (record w { sets = o; runs = runs; are_read = true })
+    work_read runs are = record {
+      text = is.text;
+      text_size = is.text_size;
+      set = is.set;
+      named_count = is.named_count;
+      named = is.named;
+      open_size = same.size ∙ is.open_size;
+      open_room = same.room ∙ is.open_room;
+      open_text = same.text ∙ is.open_text;
+      remembers = same.remembers is.remembers;
+      links = same.links is.links;
+      known = is.known;
+      runs = are;
+      bundles = is.bundles;
     }
 
     module _ (named : List Matrix) (count : length named ≡ length w.named.items) (named_sizes : All (λ (s : Matrix). s.size ≡ outputs x) named) where
       pub named_back : (with_items w.named named).items ≡ named
       named_back = with_items_is w.named named (let n = w.named.ok.0 in omega (arith, count, n))
 
-      pub work_filled : IsWork x m held (record { text = w.text; set = w.set; named = with_items w.named named; sets = o; known = w.known })
+      pub work_filled : IsWork x m held (record w { named = with_items w.named named; sets = o })
       work_filled = record {
         text = is.text;
         text_size = is.text_size;
@@ -182,7 +206,27 @@ module _ (x : Triple) (m : Machine) (held : Held) (w : Work) (is : IsWork x m he
         remembers = same.remembers is.remembers;
         links = same.links is.links;
         known = is.known;
+        bundles = is.bundles;
+        runs = is.runs;
       }
+
+  -- the words of the edges' states are others
+  pub work_steps : (b : Bundles) → AreStepsOf m.input.auto b → IsWork x m held (record w { bundles = b })
+  work_steps b steps = record {
+    text = is.text;
+    text_size = is.text_size;
+    set = is.set;
+    named_count = is.named_count;
+    named = is.named;
+    open_size = is.open_size;
+    open_room = is.open_room;
+    open_text = is.open_text;
+    remembers = is.remembers;
+    links = is.links;
+    known = is.known;
+    runs = is.runs;
+    bundles = steps;
+  }
 
   -- room for what is worked out was taken by another
   pub work_set : (k : Held) → Extends held k → (set : Matrix) → set.size ≡ w.set.size → IsWork x m k (record w { set = set })
@@ -198,6 +242,8 @@ module _ (x : Triple) (m : Machine) (held : Held) (w : Work) (is : IsWork x m he
     remembers = is.remembers;
     links = linked_more held k more w.sets.met is.links;
     known = is.known;
+    bundles = is.bundles;
+    runs = is.runs;
   }
 
   -- a set is held on, of one that was put together
@@ -214,6 +260,8 @@ module _ (x : Triple) (m : Machine) (held : Held) (w : Work) (is : IsWork x m he
     remembers = same.remembers is.remembers;
     links = same.links (linked_more held k more w.sets.met is.links);
     known = is.known;
+    bundles = is.bundles;
+    runs = is.runs;
   }
 
 -- where an entry stands tells its numbers
@@ -228,7 +276,7 @@ flat_one q k a s m l h e = by (cases_order a q)
     by (inr (inl f)) = let up = rises a q m f in absurd (omega (arith, up, e, h))
     by (inr (inr f)) = let up = rises q a m f in absurd (omega (arith, up, e, l))
 
-module _ (x : Triple) (m : Machine) (held : Held) (w : Work) (n : Node) (ok : AreGrounds x m held w n) (text : Matrix) (sets : List Matrix) (under : ℕ) (p : Place) (made : IsMadeOf m held text sets n under p) (is : IsGroundIn x p) where
+module _ (x : Triple) (m : Machine) (held : Held) (w : Work) (n : Node) (ok : AreGrounds x m held w n) (text : Matrix) (sets : List Matrix) {runs : List (Option Run)} (under : ℕ) (p : Place) (made : IsMadeOf m held text sets runs n under p) (is : IsGroundIn x p) where
   abbrev N : Kind
   N = (letter_of n.letter).kind
 

@@ -7,8 +7,7 @@ use Rattle.std.proofs.Common.{◌≡◌, ◌<◌, ◌≤◌, ◌+◌, ◌⊎◌,
 use Rattle.tc_mat.specs.Matrix.{Matrix, IsIdentity, IsComposition, HaveSamePairs}
 use Rattle.tc_mat.specs.Held.{Held, AreMatrices}
 use Rattle.tc_beh.specs.Places.{no_matrix}
-use Rattle.tc_beh.specs.Remembered.{IsProduct}
-use Rattle.tc_beh.proofs.PutLaws.{identity_first, identity_last}
+use Rattle.tc_beh.proofs.PutLaws.{identity_first}
 use Rattle.tc_beh.specs.Held.{Extends, set_at}
 use Rattle.tc_beh.specs.Links.{IsLink, AreLinks, Tables}
 use Rattle.tc_beh.specs.declared.links.Link.{Link}
@@ -127,14 +126,6 @@ linked_on h a b more are = subst (AreLinks h b.held) (sym more.links) (links_on 
 
 pub linked_more : (h k : Held) → Extends h k → (a : Met) → AreLinked h a → AreLinked k a
 linked_more h k more a are = links_on h k a.held a.held more (extends_self a.held) a.links are
-
--- a product with the set of each state with itself
-module _ (h : Held) (are : AreMatrices h) (some : 0 < length h.matrices) (is : IsIdentity (set_at h 0)) where
-  pub nothing_first : (k : ℕ) → k < length h.matrices → IsProduct h 0 k k
-  nothing_first k low = record { first_low = some; second_low = low; low = low; pairs = identity_first (set_at h 0) (set_at h k) is ((are k no_matrix low).0 ∙ sym (are 0 no_matrix some).0) }
-
-  pub nothing_second : (k : ℕ) → k < length h.matrices → IsProduct h k 0 k
-  nothing_second k low = record { first_low = low; second_low = some; low = low; pairs = identity_last (set_at h k) (set_at h 0) is ((are k no_matrix low).0 ∙ sym (are 0 no_matrix some).0) }
 
 -- what is led by nothing
 pub nothing_led : (a b m : Matrix) → IsIdentity a → b.size ≡ a.size → IsComposition a b m → HaveSamePairs m b

@@ -110,7 +110,7 @@ if_ok_map (Ok v) P Q f p = f v p
 if_ok_map (Err e) P Q f p = tt
 
 -- a number of which one thing is known
-pub if_some_map : (o : Option ℕ) (P Q : ℕ → Type 0) → ((k : ℕ) → P k → Q k) → IfSome o P → IfSome o Q
+pub if_some_map : {X : Type 0} (o : Option X) (P Q : X → Type 0) → ((k : X) → P k → Q k) → IfSome o P → IfSome o Q
 if_some_map (Some k) P Q f p = f k p
 if_some_map None P Q f p = tt
 

@@ -121,6 +121,7 @@ module _ (x : Triple) (m : Machine) (held : Held) (w : Work) (t : Room) (is : Is
     outputs = record { ref_ptr = (0, 0); now = held };
     text = record { ref_ptr = (0, 0); now = w.text };
     named = record { ref_ptr = (0, 0); now = [] };
+    runs = record { ref_ptr = (0, 0); now = [] };
     node = at.Root;
     bears = b;
     entries = record { ref_ptr = (0, 0); now = os };

@@ -41,16 +41,16 @@ outs_start n ms (k ∷ ks) sizes low zero = matrix_starts n (get_or ms k no_matr
 outs_start n ms (k ∷ ks) sizes low (suc at) = outs_start n ms ks sizes (λ i d l. low (suc i) d (omega (arith, l))) at
 
 module _ (x : Triple) where
-  edge_starts : (i j : ℕ) → text_edges x i j → i < outputs x
+  pub edge_starts : (i j : ℕ) → text_edges x i j → i < outputs x
   edge_starts i j h = (edge_within x.output output i j text_leaf h).0
 
   pub stay_starts : StartsBelow (outputs x) (stay x)
   stay_starts i j h = h.0
 
-  around_starts : (a : ℕ) (r : PairSet) → StartsBelow (outputs x) (around x a r)
+  pub around_starts : (a : ℕ) (r : PairSet) → StartsBelow (outputs x) (around x a r)
   around_starts a r i j (k, p, at, class, inside, edge) = (edge_within x.output output i j (ref_leaf k) edge).0
 
-  copied_starts : (k : NodeKind) (r : PairSet) → StartsBelow (outputs x) r → StartsBelow (outputs x) (copied_pairs x k r)
+  pub copied_starts : (k : NodeKind) (r : PairSet) → StartsBelow (outputs x) r → StartsBelow (outputs x) (copied_pairs x k r)
   copied_starts on_root r h = h
   copied_starts (on_element a) r h = around_starts a r
   copied_starts on_text r h = edge_starts

@@ -1,11 +1,9 @@
 -- The numbers of what has a tree more behind it: the states to which the tree leads, by flags, and all others.
 use Rattle.std.specs.Prelude.{◌≡◌, ◌<◌, ◌≤◌, ◌↔◌, ◌⊎◌, ◌+◌, ◌-◌, ◌==◌, ◌||◌, ℕ, List, length, get_or, Bool, true, false, if◌then◌else◌}
-use Rattle.std.specs.List.{Contains}
 use Rattle.tc_model.specs.States as s
 use Rattle.tc_model.specs.Grammars as g
 use Rattle.tc_auto.specs.Steps.{leaf}
 use Rattle.tc_auto.specs.Stands.{Stands, states}
-use Rattle.tc_auto.specs.declared.arrows.Arrow.{Arrow}
 use Rattle.tc_auto.specs.declared.auto.Auto.{Auto}
 use Rattle.tc_auto.specs.declared.auto.Leaf.{Leaf}
 use Rattle.tc_auto.specs.declared.auto.Leaf.TheVariants as l
@@ -23,11 +21,6 @@ IsTaken is_text patterns (l.Ref k) = (is_text ≡ false) × (1 ≤ k) × (get_or
 -- an edge from the state, taken by the tree, leads there
 abbrev pub IsStep : s.Side → g.Grammar → ℕ → Bool → List ℕ → ℕ → Type 0
 IsStep side x i is_text patterns j = (e : Leaf) × s.IsEdge x side i (leaf e) j × IsTaken is_text patterns e
-
--- the flags of the states to which the edges lead from states with a flag are set, and none else is changed
-pub record PutsAlong (arrows : List Arrow) (hedge old new : List ℕ) : Type 0 where
-  pub each : (j : ℕ) → (flag_at new j ≡ 1) ⊎ (flag_at new j ≡ flag_at old j)
-  pub exact : (j : ℕ) → (flag_at new j ≡ 1) ↔ ((flag_at old j ≡ 1) ⊎ ((a : Arrow) × Contains arrows a × (a.to ≡ j) × (get_or hedge a.from 0 ≡ 1)))
 
 -- exactly the flags of the states to which the tree leads some state with a flag are set
 pub record Puts (a : Auto) (hedge : List ℕ) (is_text : Bool) (patterns new : List ℕ) : Type 0 where

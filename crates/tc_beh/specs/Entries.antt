@@ -23,6 +23,7 @@ use Rattle.tc_beh.specs.declared.bodies.Place.{Place}
 use Rattle.tc_beh.specs.declared.entries.Node.{Node}
 use Rattle.tc_beh.specs.declared.machine.Machine.{Machine}
 use Rattle.tc_beh.specs.declared.rows.Work.{Work}
+use Rattle.tc_beh.specs.declared.runs.Run.{Run}
 
 -- a node of the triple, whose entries below are numbers of held sets
 pub record IsNode (x : Triple) (held : Held) (n : Node) : Type 0 where
@@ -57,13 +58,14 @@ pub record IsUnder (x : Triple) (l : letters.Letter) (q under : ℕ) : Type 0 wh
   pub below : (a : ℕ) → l.kind ≡ of_symbol a → under ≡ number_below x q l
 
 -- a place is that of the node, for an ancestor state below it
-pub record IsMadeOf (m : Machine) (h : Held) (t : Matrix) (ms : List Matrix) (n : Node) (under : ℕ) (p : Place) : Type 0 where
+pub record IsMadeOf (m : Machine) (h : Held) (t : Matrix) (ms : List Matrix) (rs : List (Option Run)) (n : Node) (under : ℕ) (p : Place) : Type 0 where
   pub rules : p.rules.now ≡ m.rules
   pub output : p.output.now ≡ m.output
   pub alphabet : p.alphabet.now ≡ m.alphabet
   pub outputs : p.outputs.now ≡ h
   pub text : p.text.now ≡ t
   pub named : p.named.now ≡ ms
+  pub runs : p.runs.now ≡ rs
   pub node : kind_of p.node ≡ node_of (letter_of n.letter).kind
   pub bears : p.bears ≡ n.bears
   pub entries : p.entries.now ≡ n.entries.now

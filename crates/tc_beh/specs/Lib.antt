@@ -1,3 +1,4 @@
+pub mod Bundles
 pub mod Callees
 pub mod Orders
 pub mod Heights
@@ -28,3 +29,4 @@ pub mod AlikeSymbols
 pub mod Links
 pub mod Named
 pub mod Opening
+pub mod Runs

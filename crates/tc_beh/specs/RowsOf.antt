@@ -8,10 +8,12 @@ use Rattle.tc_rows.specs.Bodies.{text_edges}
 use Rattle.tc_rows.specs.Rows.{HedgeRow, TreeRow}
 use Rattle.tc_rules.specs.KnownRules.{AreKnown}
 use Rattle.tc_beh.specs.Putting.{has}
+use Rattle.tc_beh.specs.Bundles.{AreStepsOf}
 use Rattle.tc_beh.specs.Machines.{IsMachineOf}
 use Rattle.tc_beh.specs.Opening.{Remembers, AreLinked}
 use Rattle.tc_beh.specs.Rooms.{hedge_layout, tree_layout, IsRoom, hedge_row, tree_row}
 use Rattle.tc_beh.specs.RoomsOf.{IsRoomOf}
+use Rattle.tc_beh.specs.Runs.{AreRuns}
 use Rattle.tc_beh.specs.declared.rows.Rows.{Rows}
 use Rattle.tc_beh.specs.declared.machine.Machine.{Machine}
 use Rattle.tc_beh.specs.declared.rows.Work.{Work}
@@ -31,6 +33,8 @@ pub record IsWork (x : Triple) (m : Machine) (h : Held) (w : Work) : Type 0 wher
   pub remembers : Remembers m.output w.sets.met
   pub links : AreLinked h w.sets.met
   pub known : AreKnown x.symbols x.rules w.known
+  pub bundles : AreStepsOf m.input.auto w.bundles
+  pub runs : AreRuns x w.runs.items
 
 pub record AreRowsOf (x : Triple) (r : Rows) : Type 0 where
   pub machine : IsMachineOf x r.machine.now

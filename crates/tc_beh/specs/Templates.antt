@@ -13,6 +13,7 @@ use Rattle.tc_rows.specs.Bodies.{NodeKind, on_root, on_element, on_text}
 use Rattle.tc_beh.specs.Heights.{depth_in, deepest, deepest_rule}
 use Rattle.tc_beh.specs.Places.{kind_of, below_of, called_by}
 use Rattle.tc_beh.specs.Putting.{IsCalled}
+use Rattle.tc_beh.specs.Runs.{rule_body}
 use Rattle.tc_beh.specs.declared.bodies.Place.{Place}
 use Rattle.tc_beh.specs.declared.templates.Template.{Template}
 use Rattle.tc_beh.specs.declared.templates.Template.TheVariants as t
@@ -20,6 +21,7 @@ use Rattle.tc_beh.specs.declared.templates.Template.TheVariants as t
 -- a body with calls in place is what is meant, where the built-in rules have bodies of their own
 abbrev pub IsTemplate : List Body → (ℕ → CallFreeBody) → Template → CallFreeBody → Type 0
 IsTemplate named own (t.Body b) p = Inlines named (see.body b.now) p
+IsTemplate named own (t.Rule n b) p = Inlines named (see.body b.now) p
 IsTemplate named own (t.BuiltIn mode) p = p ≡ own mode
 
 -- what is meant on a node of a letter that a move hits, by the ancestor state above the node
@@ -37,10 +39,12 @@ IsAlike x g l q p = (hits x g.path g.state l ≡ false) ⊎ (body_meant x g q l 
 -- it is part of the stylesheet
 abbrev pub IsPartTemplate : Sheet → Template → Type 0
 IsPartTemplate s (t.Body b) = IsPart s (see.body b.now)
+IsPartTemplate s (t.Rule n b) = IsPart s (see.body b.now) × (rule_body s n ≡ see.body b.now)
 IsPartTemplate s (t.BuiltIn mode) = mode < s.modes
 
 abbrev pub depth_of : Template → ℕ
 depth_of (t.Body b) = depth_in (see.body b.now)
+depth_of (t.Rule n b) = depth_in (see.body b.now)
 depth_of (t.BuiltIn mode) = 0
 
 -- how many elements and copies stand within one another at most in the text of a rule or of a named body

@@ -13,6 +13,7 @@ ghost use Rattle.tc_beh.specs.Above.{letter_of, node_of, pairs_at};
 ghost use Rattle.tc_beh.specs.Opening.{IsOpenAt, IsBeside};
 ghost use Rattle.tc_beh.specs.Places.{IsPlace, IsPlaceIn, kind_of, below_of, entries_by};
 ghost use Rattle.tc_beh.specs.Putting.{Extends};
+ghost use Rattle.tc_beh.specs.Runs.{IsRulePlace, IsRulePlaceIn};
 ghost use Rattle.tc_beh.specs.Templates.{IsMeantAt, IsPartTemplate, depth_of, depth_of_sheet, AreCalled};
 
 use crate::bodies::{Place, put_entry};
@@ -36,7 +37,7 @@ fn put_hit(
     state: u32,
     sets: &mut OpenSets,
 )
-    requires place { IsPlace place.now }
+    requires place { IsRulePlace place.now }
     requires node { kind_of place.now.node ≡ node_of (letter_of letter).kind }
     requires letter { (x : Triple) × IsPlaceIn x place.now
         × letters.IsLetter x.symbols (predicates x) (letter_of letter) }
@@ -45,7 +46,7 @@ fn put_hit(
     requires state { state < move_count (told place.now.rules.now) }
     requires sets { IsOpenAt place.now (depth_of_sheet (told place.now.rules.now).sheet) sets.old }
     ensures same { IsBeside place.now.output.now place.now.outputs.now sets.old sets.new }
-    ensures pairs { (x : Triple) (g : Going) (q : ℕ) → IsPlaceIn x place.now
+    ensures pairs { (x : Triple) (g : Going) (q : ℕ) → IsRulePlaceIn x place.now
         → AreCalled x place.now → letters.IsLetter x.symbols (predicates x) (letter_of letter)
         → IsMoveAt x.rules state g
         → IsMeantAt x g q (letter_of letter) template.entry
@@ -89,7 +90,7 @@ pub(crate) fn put_entry_above(
     state: u32,
     sets: &mut OpenSets,
 )
-    requires place { IsPlace place.now }
+    requires place { IsRulePlace place.now }
     requires node { kind_of place.now.node ≡ node_of (letter_of letter).kind }
     requires letter { (x : Triple) × IsPlaceIn x place.now
         × letters.IsLetter x.symbols (predicates x) (letter_of letter) }
@@ -99,7 +100,7 @@ pub(crate) fn put_entry_above(
     requires sets { IsOpenAt place.now (depth_of_sheet (told place.now.rules.now).sheet) sets.old }
     ensures same { IsBeside place.now.output.now place.now.outputs.now sets.old sets.new }
     ensures pairs { (x : Triple) (g : Going) (q : ℕ) (at : IsMoveAt x.rules state g)
-        → IsPlaceIn x place.now → AreCalled x place.now
+        → IsRulePlaceIn x place.now → AreCalled x place.now
         → letters.IsLetter x.symbols (predicates x) (letter_of letter)
         → IsMeantAt x g q (letter_of letter) template.entry
         → Extends sets.old.out sets.new.out

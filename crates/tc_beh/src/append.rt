@@ -2,19 +2,20 @@
 ghost use Rattle.std.specs.Prelude.{◌≡◌, ◌≢◌, ◌<◌, ◌≤◌, ◌+◌, ◌⊎◌, ◌↔◌, ◌==◌, ◌-◌, ℕ, List, length, get_or, IsTrue, Bool, true, false, cond, OnOk, OnErr};
 ghost use Rattle.std.specs.Result.{IsErrOf};
 ghost use Rattle.std.specs.List.{Contains};
-ghost use Rattle.tc_auto.specs.Arrows.{AreWithin};
 ghost use Rattle.tc_auto.specs.Stands.{states as states_of, patterns as patterns_of};
 ghost use Rattle.tc_rows.specs.Rows.{or_hit};
 ghost use Rattle.tc_mat.specs.Held.{AreMatrices};
 ghost use Rattle.tc_beh.specs.Held.{Extends, Grows, set_at, IsNew, AreProducts};
 ghost use Rattle.tc_beh.specs.Rooms.{flag_at, flags_in, output_at};
 ghost use Rattle.tc_beh.specs.RoomsOf.{IsRoomBeside, AreTexts};
-ghost use Rattle.tc_beh.specs.Appending.{PutsAlong, Puts, IsBehind};
+ghost use Rattle.tc_beh.specs.Appending.{Puts, IsBehind};
+ghost use Rattle.tc_beh.specs.Bundles.{AreStepsOf, AreWordsOf};
 
+use crate::bundles::{Bundles, put_bundles, put_words};
 use crate::held_sets::HeldSets;
 use crate::outputs::{RowFault, put_products};
 use crate::rooms::Room;
-use tc_auto::{Arrow, Auto};
+use tc_auto::Auto;
 use tc_mat::Mat;
 
 /// Whether a flag is set.
@@ -27,64 +28,51 @@ pub(crate) fn is_set(flags: &[u32], place: usize) -> bool
     }
 }
 
-/// Sets the flags of the states to which edges lead from states with a flag.
-fn put_arrows(arrows: &[Arrow], hedge: &[u32], out: &mut Room)
-    requires within { AreWithin out.old.flags arrows.now }
-    ensures beside { IsRoomBeside out.old out.new }
-    ensures others { (k : ℕ) → (k < 2) ⊎ (2 + out.old.flags ≤ k) → get_or out.new.numbers.items k 0
-        ≡ get_or out.old.numbers.items k 0 }
-    ensures flags { PutsAlong arrows.now hedge.now out.old.numbers.items out.new.numbers.items }
-{
-    for arrow in arrows {
-        if is_set(hedge, arrow.from as usize) {
-            out.set_flag(arrow.to as usize);
-        }
-    }
-}
-
-/// Leaves the flags of the states to which a text leads some.
-fn put_states_of_text(auto: &Auto<'_>, hedge: &[u32], out: &mut Room)
+/// Leaves the flags of the states to which an element leads some of those whose bits are set, by the element patterns that it
+/// matches. None is set yet.
+fn put_states_of_element(auto: &Auto<'_>, bundles: &Bundles, patterns: &[u32], out: &mut Room)
     requires flags { out.old.flags ≡ states_of auto.now }
-    ensures beside { IsRoomBeside out.old out.new }
-    ensures others { (k : ℕ) → (k < 2) ⊎ (2 + out.old.flags ≤ k) → get_or out.new.numbers.items k 0
-        ≡ get_or out.old.numbers.items k 0 }
-    ensures flags { (patterns : List ℕ)
-        → Puts auto.now hedge.now true patterns out.new.numbers.items }
-{
-    out.clear_flags();
-    put_arrows(auto.text_arrows(), hedge, out);
-}
-
-/// Leaves the flags of the states to which an element leads some, by the element patterns that it matches.
-fn put_states_of_element(auto: &Auto<'_>, hedge: &[u32], patterns: &[u32], out: &mut Room)
-    requires flags { out.old.flags ≡ states_of auto.now }
+    requires none { (j : ℕ) → j < out.old.flags → flag_at out.old.numbers.items j ≡ 0 }
     requires patterns { length patterns.now ≡ patterns_of auto.now }
+    requires steps { AreStepsOf auto.now bundles.now }
     ensures beside { IsRoomBeside out.old out.new }
     ensures others { (k : ℕ) → (k < 2) ⊎ (2 + out.old.flags ≤ k) → get_or out.new.numbers.items k 0
         ≡ get_or out.old.numbers.items k 0 }
-    ensures flags { Puts auto.now hedge.now false patterns.now out.new.numbers.items }
+    ensures flags { (hedge : List ℕ) → AreWordsOf hedge bundles.now.words.bits.items
+        → Puts auto.now hedge false patterns.now out.new.numbers.items }
 {
-    out.clear_flags();
     for before in 0..auto.patterns() {
         if is_set(patterns, before as usize) {
-            put_arrows(auto.arrows(before + 1), hedge, out);
+            let edges = bundles.patterns[before as usize].as_slice();
+            put_bundles(edges, bundles.words.bits.as_slice(), out);
         }
     }
 }
 
 /// Leaves the flags of the states to which a tree leads some.
-fn put_states(auto: &Auto<'_>, hedge: &[u32], is_text: bool, patterns: &[u32], out: &mut Room)
+fn put_states(
+    auto: &Auto<'_>,
+    bundles: &mut Bundles,
+    hedge: &[u32],
+    is_text: bool,
+    patterns: &[u32],
+    out: &mut Room,
+)
     requires flags { out.old.flags ≡ states_of auto.now }
     requires patterns { length patterns.now ≡ patterns_of auto.now }
+    requires steps { AreStepsOf auto.now bundles.old }
+    ensures steps { AreStepsOf auto.now bundles.new }
     ensures beside { IsRoomBeside out.old out.new }
     ensures others { (k : ℕ) → (k < 2) ⊎ (2 + out.old.flags ≤ k) → get_or out.new.numbers.items k 0
         ≡ get_or out.old.numbers.items k 0 }
     ensures flags { Puts auto.now hedge.now is_text patterns.now out.new.numbers.items }
 {
+    out.clear_flags();
+    put_words(&mut bundles.words, hedge);
     if is_text {
-        put_states_of_text(auto, hedge, out);
+        put_bundles(bundles.text.as_slice(), bundles.words.bits.as_slice(), out);
     } else {
-        put_states_of_element(auto, hedge, patterns, out);
+        put_states_of_element(auto, bundles, patterns, out);
     }
 }
 
@@ -115,9 +103,17 @@ fn put_first_looks(first: &[u32], second: &[u32], out: &mut Room)
 }
 
 /// Leaves where a list of trees may stand with a tree more behind it. Tells whether it may stand anywhere.
-pub(crate) fn put_kind(auto: &Auto<'_>, hedge: &Room, tree: &Room, out: &mut Room) -> bool
+pub(crate) fn put_kind(
+    auto: &Auto<'_>,
+    bundles: &mut Bundles,
+    hedge: &Room,
+    tree: &Room,
+    out: &mut Room,
+) -> bool
     requires flags { out.old.flags ≡ states_of auto.now }
     requires patterns { tree.now.flags ≡ patterns_of auto.now }
+    requires steps { AreStepsOf auto.now bundles.old }
+    ensures steps { AreStepsOf auto.now bundles.new }
     ensures beside { IsRoomBeside out.old out.new }
     ensures others { (k : ℕ) → (k < 2) ⊎ (2 + out.old.flags ≤ k) → get_or out.new.numbers.items k 0
         ≡ get_or out.old.numbers.items k 0 }
@@ -132,7 +128,14 @@ pub(crate) fn put_kind(auto: &Auto<'_>, hedge: &Room, tree: &Room, out: &mut Roo
     if hedge.is_text() && tree.is_text() {
         return false;
     }
-    put_states(auto, hedge.flags(), tree.is_text(), tree.flags(), out);
+    put_states(
+        auto,
+        bundles,
+        hedge.flags(),
+        tree.is_text(),
+        tree.flags(),
+        out,
+    );
     has_flag(out.flags())
 }
 

@@ -24,6 +24,7 @@ ghost use Rattle.tc_beh.specs.Places.{IsPlace, IsPlaceIn, kind_of, below_of, cal
 use crate::held_sets::HeldSets;
 use crate::looks::{holds, look};
 use crate::open_sets::OpenSets;
+use crate::runs::Run;
 use crate::symbols::Symbols;
 use tc_alpha::Sym;
 use tc_hedge::Hedge;
@@ -66,6 +67,8 @@ pub(crate) struct Place<'a, 'b> {
     pub(crate) text: &'a Mat,
     /// The pairs of the bodies of named templates here.
     pub(crate) named: &'a [Mat],
+    /// The runs of the bodies of rules, by rule, as far as they are known.
+    pub(crate) runs: &'a [Option<Run<'b>>],
     pub(crate) node: At,
     pub(crate) bears: bool,
     pub(crate) entries: &'a [u32],

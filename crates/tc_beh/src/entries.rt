@@ -19,6 +19,7 @@ ghost use Rattle.tc_beh.specs.Held.{Extends, set_at};
 ghost use Rattle.tc_beh.specs.Leads.{AreLeads};
 ghost use Rattle.tc_beh.specs.Opening.{AreLinked, IsBeside};
 ghost use Rattle.tc_beh.specs.Places.{kind_of, entries_by};
+ghost use Rattle.tc_beh.specs.Remembered.{IsNothing};
 ghost use Rattle.tc_beh.specs.Rooms.{output_at};
 ghost use Rattle.tc_beh.specs.RoomsOf.{IsRoomBeside};
 ghost use Rattle.tc_beh.specs.RowsOf.{IsWork};
@@ -35,6 +36,7 @@ use crate::open_sets::OpenSets;
 use crate::outputs::{RowFault, keep};
 use crate::rooms::Room;
 use crate::rows::Work;
+use crate::runs::{Run, read_runs};
 use crate::templates::{are_alike, template_at};
 use tc_mat::Mat;
 use tc_rules::{Kind, KnownRules, Rules};
@@ -52,12 +54,14 @@ pub(crate) struct Node<'a> {
 }
 
 /// Where an entry of a node stands: the ancestor state above the node, that for what stands below it, an ancestor state before
-/// that leads to the same, and the state of a move.
+/// that leads to the same, and the state of a move. Beside them stands the number of the set of each state with itself, if it is
+/// known.
 #[derive(Clone, Copy)]
 struct Spot {
     ancestor: u32,
     above: u32,
     before: Option<u32>,
+    nothing: Option<u32>,
     state: u32,
 }
 
@@ -77,10 +81,12 @@ fn place_of<'a, 'b>(
     outputs: &'a HeldSets,
     text: &'a Mat,
     named: &'a [Mat],
+    runs: &'a [Option<Run<'b>>],
     node: Node<'a>,
     above: u32,
 ) -> Place<'a, 'b>
-    ensures { IsMadeOf machine.now outputs.now text.now named.now node.entry above result }
+    ensures { IsMadeOf machine.now outputs.now text.now named.now runs.now node.entry above
+        result }
 {
     let _held = outputs.len();
     Place {
@@ -90,6 +96,7 @@ fn place_of<'a, 'b>(
         outputs,
         text,
         named,
+        runs,
         node: node_at(node.letter.kind),
         bears: node.bears,
         entries: node.entries,
@@ -115,10 +122,10 @@ fn state_below(rules: &Rules<'_>, letter: Letter, ancestor: u32) -> u32
 }
 
 /// Works out the sets of the bodies of named templates on a node.
-fn put_named_on(
-    machine: &Machine<'_>,
+fn put_named_on<'b>(
+    machine: &Machine<'b>,
     outputs: &HeldSets,
-    work: &mut Work,
+    work: &mut Work<'b>,
     node: Node<'_>,
     above: u32,
 )
@@ -129,7 +136,8 @@ fn put_named_on(
     ensures called { (x : Triple) → AreGrounds x machine.now outputs.now work.old node.entry
         → AreCalledOn x outputs.now node.entry above work.new.named.items }
 {
-    let place = place_of(machine, outputs, &work.text, &[], node, above);
+    let runs = work.runs.as_slice();
+    let place = place_of(machine, outputs, &work.text, &[], runs, node, above);
     put_named(
         &place,
         machine.order.as_slice(),
@@ -138,11 +146,35 @@ fn put_named_on(
     );
 }
 
-/// Works out the sets of the bodies of named templates on a node, if that isn't done yet.
-fn ready_named(
-    machine: &Machine<'_>,
+/// Reads the runs of the bodies of rules, if that isn't done yet. They are the same on each node.
+fn read_runs_on<'b>(
+    machine: &Machine<'b>,
     outputs: &HeldSets,
-    work: &mut Work,
+    work: &mut Work<'b>,
+    node: Node<'_>,
+    above: u32,
+)
+    requires grounds { AreSomeGrounds machine.now outputs.now work.old node }
+    requires above { above < length (told machine.now.rules).ancestors.states }
+    ensures work { (x : Triple) → AreGrounds x machine.now outputs.now work.old node.entry
+        → IsWork x machine.now outputs.now work.new }
+    ensures named { work.new.named.items ≡ work.old.named.items }
+{
+    if work.are_read {
+        return;
+    }
+    work.are_read = true;
+    let named = work.named.as_slice();
+    let runs = work.runs.as_slice();
+    let place = place_of(machine, outputs, &work.text, named, runs, node, above);
+    work.runs = read_runs(&place, work.alloc, &mut work.sets);
+}
+
+/// Works out the sets of the bodies of named templates on a node, if that isn't done yet.
+fn ready_named<'b>(
+    machine: &Machine<'b>,
+    outputs: &HeldSets,
+    work: &mut Work<'b>,
     node: Node<'_>,
     above: u32,
     is_ready: &mut bool,
@@ -159,6 +191,7 @@ fn ready_named(
     if *is_ready {
         return;
     }
+    read_runs_on(machine, outputs, work, node, above);
     put_named_on(machine, outputs, work, node, above);
     *is_ready = true;
 }
@@ -245,10 +278,10 @@ fn as_before(
 }
 
 /// Works out what a state of a move above puts out on a node and then below it.
-fn put_entry_of(
-    machine: &Machine<'_>,
+fn put_entry_of<'b>(
+    machine: &Machine<'b>,
     outputs: &HeldSets,
-    work: &mut Work,
+    work: &mut Work<'b>,
     node: Node<'_>,
     spot: Spot,
 )
@@ -276,18 +309,20 @@ fn put_entry_of(
     );
     work.sets.restart();
     let named = work.named.as_slice();
-    let place = place_of(machine, outputs, &work.text, named, node, spot.above);
+    let runs = work.runs.as_slice();
+    let place = place_of(machine, outputs, &work.text, named, runs, node, spot.above);
     put_entry_above(&place, node.letter, template, spot.state, &mut work.sets);
     let _out = work.sets.out();
 }
 
 /// The number of an entry of an element that its state doesn't hit: that of the state to which the element leads it, below the
-/// element. There is none where it hits the node or goes nowhere.
+/// element, and that of nothing where it goes nowhere. There is none where it hits the node, or that isn't known.
 fn passed_on(machine: &Machine<'_>, outputs: &HeldSets, node: Node<'_>, spot: Spot) -> Option<u32>
     requires node { (x : Triple) × IsRulesIn x machine.now.rules × IsNode x outputs.now node }
     requires leads { AreLeads machine.now.rules node.letter node.leads.now }
     requires state { spot.state < move_count (told machine.now.rules) }
     requires above { spot.above < length (told machine.now.rules).ancestors.states }
+    requires nothing { IfSome spot.nothing (λ k. IsNothing outputs.now k) }
     ensures low { IfSome result (λ k. k < length outputs.now.matrices) }
     ensures entry { IfSome result
         (λ k. (x : Triple) → IsRulesIn x machine.now.rules → outputs.now.size ≡ outputs_of x
@@ -305,7 +340,7 @@ fn passed_on(machine: &Machine<'_>, outputs: &HeldSets, node: Node<'_>, spot: Sp
         return None;
     }
     match lead.below {
-        None => None,
+        None => spot.nothing,
         Some(next) => {
             let _held = outputs.len();
             Some(node.entries[entry_place(spot.above, rules.moves(), next)])
@@ -381,8 +416,7 @@ fn keep_nothing(
     requires links { AreLinked outputs.old sets.old.met }
     ensures same { (m : Hedge) → IsBeside m outputs.new sets.old sets.new }
     ensures held { Extends outputs.old outputs.new }
-    ensures number { IfOk result (λ k. (k < length outputs.new.matrices)
-        × IsIdentity (set_at outputs.new k) × ((set_at outputs.new k).size ≡ outputs.new.size)) }
+    ensures number { IfOk result (λ k. IsNothing outputs.new k) }
     ensures grows { IfOk result (λ k.
         ((k < length outputs.old.matrices) × (outputs.new ≡ outputs.old)) ⊎
         ((k ≡ length outputs.old.matrices)
@@ -400,11 +434,11 @@ fn keep_nothing(
 }
 
 /// The number of an entry of a node.
-fn keep_entry(
-    machine: &Machine<'_>,
+fn keep_entry<'b>(
+    machine: &Machine<'b>,
     outputs: &mut HeldSets,
     is_fixed: bool,
-    work: &mut Work,
+    work: &mut Work<'b>,
     node: Node<'_>,
     spot: Spot,
     out: &Room,
@@ -417,6 +451,7 @@ fn keep_entry(
     requires before { IfSome spot.before (λ q. (q < spot.ancestor)
         × (output_at out.now.flags out.now.numbers.items
         (q * move_count (told machine.now.rules) + spot.state) < length outputs.old.matrices)) }
+    requires nothing { IfSome spot.nothing (λ k. IsNothing outputs.old k) }
     requires room { (spot.ancestor + 1) * move_count (told machine.now.rules) ≤ out.now.entries }
     ensures work { (x : Triple) → AreGrounds x machine.now outputs.old work.old node.entry
         → IsWork x machine.now outputs.new work.new }
@@ -455,28 +490,26 @@ fn keep_entry(
     ensures fresh { IsErrOf result RowFault.NewOutput → is_fixed ≡ true }
     ensures memory { IsErrOf result RowFault.NoMemory → is_fixed ≡ false }
 {
+    if let Some(number) = passed_on(machine, outputs, node, spot) {
+        return Ok(number);
+    }
     if let Some(number) = as_before(machine, &mut work.known, node, spot, out) {
         return Ok(number);
     }
     if puts_nothing(machine, node, spot) {
         return keep_nothing(outputs, is_fixed, &mut work.sets);
     }
-    match passed_on(machine, outputs, node, spot) {
-        Some(number) => Ok(number),
-        None => {
-            ready_named(machine, outputs, work, node, spot.above, is_ready);
-            put_entry_of(machine, outputs, work, node, spot);
-            keep_open(outputs, is_fixed, &mut work.sets)
-        }
-    }
+    ready_named(machine, outputs, work, node, spot.above, is_ready);
+    put_entry_of(machine, outputs, work, node, spot);
+    keep_open(outputs, is_fixed, &mut work.sets)
 }
 
 /// Leaves the entries of a node for one ancestor state above it.
-fn put_row(
-    machine: &Machine<'_>,
+fn put_row<'b>(
+    machine: &Machine<'b>,
     outputs: &mut HeldSets,
     is_fixed: bool,
-    work: &mut Work,
+    work: &mut Work<'b>,
     node: Node<'_>,
     ancestor: u32,
     out: &mut Room,
@@ -517,6 +550,7 @@ fn put_row(
 {
     let above = state_below(&machine.rules, node.letter, ancestor);
     let before = before_of(&machine.rules, node.letter, ancestor, above);
+    let nothing = work.sets.held_nothing();
     let moves = machine.rules.moves();
     let mut is_ready = false;
     for state in 0..moves {
@@ -524,6 +558,7 @@ fn put_row(
             ancestor,
             above,
             before,
+            nothing,
             state,
         };
         let number = keep_entry(
@@ -542,11 +577,11 @@ fn put_row(
 }
 
 /// Leaves the numbers of the entries of a node.
-pub(crate) fn put_entries(
-    machine: &Machine<'_>,
+pub(crate) fn put_entries<'b>(
+    machine: &Machine<'b>,
     outputs: &mut HeldSets,
     is_fixed: bool,
-    work: &mut Work,
+    work: &mut Work<'b>,
     node: Node<'_>,
     out: &mut Room,
 ) -> Result<(), RowFault>

@@ -1,8 +1,9 @@
 // The sets of pairs that stand in rows, each held once, with some of their products.
 ghost use Rattle.std.specs.Prelude.{◌≡◌, ◌<◌, ◌≤◌, ◌++◌, ◌∷◌, [], Some, slice_get, length, IfOk, IfSome, OnErr, MatchOption, true};
+ghost use Rattle.tc_mat.specs.Matrix.{IsIdentity};
 ghost use Rattle.std.specs.Result.{IsErrOf};
-ghost use Rattle.tc_mat.specs.Held.{AreDifferent, AreMatrices, IsHeld};
-ghost use Rattle.tc_beh.specs.Remembered.{IsProduct};
+ghost use Rattle.tc_mat.specs.Held.{Held, AreDifferent, AreMatrices, IsHeld};
+ghost use Rattle.tc_beh.specs.Remembered.{IsNothing, IsProduct};
 
 use crate::guesses::Guesses;
 use crate::products::Products;
@@ -17,17 +18,58 @@ pub(crate) struct HeldSets {
     pool: Pool,
     products: Products,
     guesses: Guesses,
+    /// The set of each state with itself, and its number, if it is held.
+    identity: Mat,
+    nothing: Option<u32>,
 }
 
 impl Model for HeldSets {
+    ghost use Rattle.std.specs.Prelude.{◌≡◌, IfSome};
     ghost use Rattle.tc_mat.specs.Held.{Held};
-    ghost use Rattle.tc_beh.specs.Remembered.{AreRemembered};
+    ghost use Rattle.tc_mat.specs.Matrix.{IsIdentity};
+    ghost use Rattle.tc_beh.specs.Remembered.{IsNothing, AreRemembered};
 
     ghost Value = { Held };
 
     ghost view = { λ s. s.pool };
 
-    ghost invariant = { λ s. AreRemembered s.pool s.products };
+    ghost invariant = { λ s. AreRemembered s.pool s.products × IsIdentity s.identity
+        × (s.identity.size ≡ s.pool.size) × IfSome s.nothing (IsNothing s.pool) };
+}
+
+/// The number of the set of each state with itself in a pool, if it is held.
+fn nothing_in(pool: &Pool, identity: &Mat) -> Option<u32>
+    requires is { IsIdentity identity.now }
+    requires size { identity.now.size ≡ pool.now.size }
+    ensures { IfSome result (IsNothing pool.now) }
+{
+    match pool.find(identity) {
+        Some(id) => Some(id.0),
+        None => None,
+    }
+}
+
+/// The same after one more set was held, which may be that.
+fn nothing_after(
+    nothing: Option<u32>,
+    is_nothing: bool,
+    held: &Result<MatId, PoolFault>,
+) -> Option<u32>
+    ensures { (h : Held) → IfSome nothing (IsNothing h)
+        → (is_nothing ≡ true → IfOk held.now (λ id. IsNothing h id.0))
+        → IfSome result (IsNothing h) }
+{
+    match held {
+        Ok(id) => { if is_nothing { Some(id.0) } else { nothing } }
+        Err(_) => nothing,
+    }
+}
+
+/// True only of the same set.
+fn is_same(one: &Mat, other: &Mat) -> bool
+    ensures { result ≡ true → one.now ≡ other.now }
+{
+    one == other
 }
 
 impl HeldSets {
@@ -41,10 +83,14 @@ impl HeldSets {
     {
         let products = Products::none(alloc)?;
         let guesses = Guesses::of(alloc, &pool)?;
+        let identity = Mat::identity(alloc, pool.size())?;
+        let nothing = nothing_in(&pool, &identity);
         Ok(HeldSets {
             pool,
             products,
             guesses,
+            identity,
+            nothing,
         })
     }
 
@@ -102,13 +148,39 @@ impl HeldSets {
         ensures full { IsErrOf result PoolFault.PoolFull → length self.old.matrices ≡ 65536 }
     {
         self.guesses.keep(set, self.pool.len());
-        self.pool.intern(set)
+        let is_nothing = is_same(set, &self.identity);
+        let held = self.pool.intern(set);
+        self.nothing = nothing_after(self.nothing, is_nothing, &held);
+        held
     }
 
-    /// The number of the product of two sets, if it is remembered.
+    /// True only where a set is held, and another one is that of each state with itself.
+    fn is_beside_nothing(&self, one: u32, other: u32) -> bool
+        ensures { result ≡ true → (one < length self.now.matrices) × IsNothing self.now other
+            × AreMatrices self.now }
+    {
+        let Some(nothing) = self.nothing else {
+            return false;
+        };
+        if nothing != other {
+            return false;
+        }
+        if one >= self.pool.len() {
+            return false;
+        }
+        true
+    }
+
+    /// The number of the product of two sets, if it is remembered, or one of them is that of each state with itself.
     pub(crate) fn product(&self, first: u32, second: u32) -> Option<u32>
         ensures { IfSome result (λ k. IsProduct self.now first second k) }
     {
+        if self.is_beside_nothing(first, second) {
+            return Some(first);
+        }
+        if self.is_beside_nothing(second, first) {
+            return Some(second);
+        }
         self.products.get(first, second)
     }
 

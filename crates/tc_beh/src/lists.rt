@@ -1,12 +1,12 @@
 // What is held as lists of pairs, and lists of pairs as what is held.
-ghost use Rattle.std.specs.Prelude.{◌≡◌, ◌<◌, ◌≤◌, ◌++◌, ◌∷◌, [], ℕ, length, All, IfOk, OnOk};
+ghost use Rattle.std.specs.Prelude.{◌≡◌, ◌<◌, ◌≤◌, ◌++◌, ◌∷◌, [], ℕ, length, All, IfOk, OnOk, IfSome, MatchOption};
 ghost use Rattle.std.specs.List.{Contains};
 ghost use Rattle.tc_mat.specs.Matrix.{IsMatrix};
 ghost use Rattle.tc_mat.specs.Held.{IsHeld};
 ghost use Rattle.tc_rows.specs.PairSets.{IsPairs};
 ghost use Rattle.tc_beh.specs.Places.{pairs_of as list_of};
 ghost use Rattle.tc_beh.specs.Outs.{sets_of};
-ghost use Rattle.tc_beh.specs.Listing.{row_pairs, AreDistinct, HasPairs};
+ghost use Rattle.tc_beh.specs.Listing.{row_pairs, AreDistinct, HasPairs, AreZero, IsFirstBit, LeadsNowhere, IsNext};
 
 use std::alloc::Global;
 use tc_base::NoMemory;
@@ -68,15 +68,45 @@ fn push_pair(pairs: &mut Pairs, pair: (u32, u32)) -> Result<(), NoMemory>
     pairs.push(pair)
 }
 
+/// The first place of a word, from one on, at which a bit is set.
+fn first_bit(word: u64, start: u32) -> Option<u32>
+    requires { start < 64 }
+    ensures { MatchOption result (AreZero word start 64) (λ k. IsFirstBit word start k) }
+{
+    let rest = word >> start;
+    if rest == 0 {
+        return None;
+    }
+    Some(start + rest.trailing_zeros())
+}
+
+/// The first number, from one on, to which a number leads.
+fn next_of(set: &Mat, from: u32, start: u32) -> Option<u32>
+    requires { from < set.now.size }
+    ensures next { MatchOption result (LeadsNowhere set.now from start set.now.size)
+        (λ to. IsNext set.now from start to) }
+    ensures low { IfSome result (λ to. to < 4294967295) }
+{
+    let width = (set.size() as usize + 63) / 64;
+    let first = start as usize / 64;
+    for word in first..width {
+        let place = if word == first { start % 64 } else { 0 };
+        if let Some(bit) = first_bit(set.words()[from as usize * width + word], place) {
+            return Some(64 * word as u32 + bit);
+        }
+    }
+    None
+}
+
 /// Puts the pairs of a set from one number at the end, in order.
 fn put_row(set: &Mat, from: u32, pairs: &mut Pairs) -> Result<(), NoMemory>
     requires { from < set.now.size }
     ensures { OnOk result (pairs.new ≡ pairs.old ++ row_pairs set.now from set.now.size) }
 {
-    for to in 0..set.size() {
-        if set.has(from, to) {
-            push_pair(pairs, (from, to))?;
-        }
+    let mut start = 0;
+    while let Some(to) = next_of(set, from, start) {
+        push_pair(pairs, (from, to))?;
+        start = to + 1;
     }
     Ok(())
 }

@@ -63,6 +63,7 @@ fn put_one_named(place: &Place<'_, '_>, number: usize, named: &mut [Mat], sets: 
         outputs: place.outputs,
         text: place.text,
         named: &*named,
+        runs: place.runs,
         node: place.node,
         bears: place.bears,
         entries: place.entries,

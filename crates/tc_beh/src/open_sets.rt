@@ -244,6 +244,15 @@ impl OpenSets {
         self.met.held_of(self.places[self.free].number)
     }
 
+    /// The number in rows of the set of each state with itself, if it is known.
+    pub(crate) fn held_nothing(&self) -> Option<u32>
+        ensures { IfSome result (λ k. (h : Held) → AreLinked h self.now.met
+            → (k < length h.matrices) × IsIdentity (set_at h k)
+            × ((set_at h k).size ≡ self.now.out.size)) }
+    {
+        self.met.held_of(Some(self.met.nothing()))
+    }
+
     /// Keeps the number in rows of the set that is put together.
     pub(crate) fn link(&mut self, held: u32)
         ensures { (m : Hedge) (h : Held) → held < length h.matrices

@@ -13,11 +13,12 @@ ghost use Rattle.tc_rows.specs.PairSets.{HaveSamePairs};
 ghost use Rattle.tc_rows.specs.Bodies.{on_root, body_pairs};
 ghost use Rattle.tc_beh.specs.Machines.{IsMachine};
 ghost use Rattle.tc_beh.specs.Opening.{IsOpenAt, IsBeside};
-ghost use Rattle.tc_beh.specs.Places.{IsPlace, IsPlaceIn, kind_of, below_of};
+ghost use Rattle.tc_beh.specs.Places.{kind_of, below_of};
 ghost use Rattle.tc_beh.specs.Putting.{has, Extends};
 ghost use Rattle.tc_beh.specs.Rooms.{flagged, tree_row};
 ghost use Rattle.tc_beh.specs.Roots.{IsRootIn, root_pairs};
 ghost use Rattle.tc_beh.specs.RowsOf.{IsWork};
+ghost use Rattle.tc_beh.specs.Runs.{IsRulePlace, IsRulePlaceIn};
 ghost use Rattle.tc_beh.specs.Templates.{AreCalled, depth_of_sheet};
 
 use crate::append::is_set;
@@ -62,11 +63,11 @@ fn leads_to_end(auto: &Auto<'_>, set: &Mat) -> bool
 
 /// Puts what is put out on the root of a document.
 fn put_on_root(place: &Place<'_, '_>, sets: &mut OpenSets)
-    requires place { IsPlace place.now }
+    requires place { IsRulePlace place.now }
     requires root { kind_of place.now.node ≡ on_root }
     requires sets { IsOpenAt place.now (depth_of_sheet (told place.now.rules.now).sheet) sets.old }
     ensures same { IsBeside place.now.output.now place.now.outputs.now sets.old sets.new }
-    ensures pairs { (x : Triple) → IsPlaceIn x place.now → AreCalled x place.now
+    ensures pairs { (x : Triple) → IsRulePlaceIn x place.now → AreCalled x place.now
         → Extends sets.old.out sets.new.out
         (body_pairs x (body_of_root x.symbols (predicates x) (sheet x).rules x.bodies (in_mode 0))
         (kind_of place.now.node) (below_of x place.now)) }
@@ -77,7 +78,7 @@ fn put_on_root(place: &Place<'_, '_>, sets: &mut OpenSets)
 }
 
 /// Leaves, in the set that is worked out, where what is put out on the root of a document leads the output.
-fn put_root(machine: &Machine<'_>, outputs: &HeldSets, work: &mut Work, tree: &Room)
+fn put_root<'b>(machine: &Machine<'b>, outputs: &HeldSets, work: &mut Work<'b>, tree: &Room)
     requires { (x : Triple) × IsRootIn x machine.now outputs.now work.old tree.now }
     ensures work { (x : Triple) → IsRootIn x machine.now outputs.now work.old tree.now
         → IsWork x machine.now outputs.now work.new }
@@ -93,6 +94,7 @@ fn put_root(machine: &Machine<'_>, outputs: &HeldSets, work: &mut Work, tree: &R
         outputs,
         text: &work.text,
         named: &[],
+        runs: &[],
         node: At::Root,
         bears: tree.bears(),
         entries: tree.outputs(),

@@ -6,6 +6,7 @@ ghost use Rattle.tc_beh.specs.Machines.{IsMachine, IsMachineOf};
 ghost use Rattle.tc_rows.specs.Triples.{Triple};
 
 use crate::append::{put_append, put_kind};
+use crate::bundles::Bundles;
 use crate::empty::put_empty;
 use crate::held_sets::HeldSets;
 use crate::leads::{Lead, NOWHERE};
@@ -14,6 +15,7 @@ use crate::machine::Machine;
 use crate::open_sets::OpenSets;
 use crate::outputs::RowFault;
 use crate::rooms::{HRow, TRow};
+use crate::runs::Run;
 use std::alloc::Global;
 use tc_base::NoMemory;
 use tc_mat::{Mat, MatId, Pool};
@@ -26,14 +28,15 @@ pub struct Rows<'m, 'b> {
     pub(crate) machine: &'m Machine<'b>,
     pub(crate) is_fixed: bool,
     pub(crate) outputs: HeldSets,
-    pub(crate) work: Work,
+    pub(crate) work: Work<'b>,
     /// Where the states of moves go on the node whose row is worked out.
     pub(crate) leads: Vec<Lead>,
 }
 
 /// Room for sets of pairs that are worked out.
 #[derive(Drop)]
-pub(crate) struct Work {
+pub(crate) struct Work<'b> {
+    pub(crate) alloc: Global,
     /// The pairs of a text that isn't white space alone.
     pub(crate) text: Mat,
     /// The set that is worked out.
@@ -44,6 +47,11 @@ pub(crate) struct Work {
     pub(crate) sets: OpenSets,
     /// Some of the rules that were found for letters of nodes.
     pub(crate) known: KnownRules,
+    /// The edges of the contents of the input schema.
+    pub(crate) bundles: Bundles,
+    /// The runs of the bodies of rules, by rule, and whether they were read.
+    pub(crate) runs: Vec<Option<Run<'b>>>,
+    pub(crate) are_read: bool,
 }
 
 /// So many empty sets.
@@ -58,11 +66,11 @@ fn empty_sets(alloc: Global, count: usize, size: u32) -> Result<Vec<Mat>, NoMemo
     Ok(sets)
 }
 
-impl Work {
+impl<'b> Work<'b> {
     ghost use Rattle.tc_mat.specs.Held.{Held};
     ghost use Rattle.tc_beh.specs.RowsOf.{IsWork};
 
-    fn new(alloc: Global, machine: &Machine<'_>) -> Result<Work, NoMemory>
+    fn new(alloc: Global, machine: &Machine<'b>) -> Result<Work<'b>, NoMemory>
         requires { IsMachine machine.now }
         ensures { IfOk result (λ w. (x : Triple) (h : Held) → IsMachineOf x machine.now
             → IsWork x machine.now h w) }
@@ -74,12 +82,18 @@ impl Work {
         let named = empty_sets(alloc, machine.rules.sheet().named.len(), size)?;
         let sets = OpenSets::of(alloc, &text, machine.depth)?;
         let known = KnownRules::new(&machine.rules)?;
+        let bundles = Bundles::of(alloc, machine.input.auto())?;
+        let runs = Vec::new(alloc);
         Ok(Work {
+            alloc,
             text,
             set,
             named,
             sets,
             known,
+            bundles,
+            runs,
+            are_read: false,
         })
     }
 }
@@ -302,7 +316,13 @@ impl<'m, 'b> Rows<'m, 'b> {
         ensures fresh { IsErrOf result RowFault.NewOutput → self.old.is_fixed ≡ true }
         ensures memory { IsErrOf result RowFault.NoMemory → self.old.is_fixed ≡ false }
     {
-        if !put_kind(self.machine.input.auto(), &h.room, &t.room, &mut out.room) {
+        if !put_kind(
+            self.machine.input.auto(),
+            &mut self.work.bundles,
+            &h.room,
+            &t.room,
+            &mut out.room,
+        ) {
             return Ok(false);
         }
         put_append(

@@ -15,19 +15,22 @@ ghost use Rattle.tc_beh.specs.Heights.{depth_in};
 ghost use Rattle.tc_beh.specs.Putting.{Extends};
 ghost use Rattle.tc_beh.specs.Opening.{IsOpenAt, IsBeside};
 ghost use Rattle.tc_beh.specs.Places.{IsPlace, IsPlaceIn, kind_of, below_of, called_by};
+ghost use Rattle.tc_beh.specs.Runs.{IsRulePlace, IsRulePlaceIn};
 ghost use Rattle.tc_beh.specs.Stands.{IsRulesIn, AreRules};
 ghost use Rattle.tc_beh.specs.Templates.{IsMeantAt, IsTemplate, IsPartTemplate, body_meant, depth_of, depth_of_sheet, built_in_on, AreCalled};
 
 use crate::above::Letter;
 use crate::bodies::{At, Place, all_children, put_body, put_selected, put_text_if};
 use crate::open_sets::OpenSets;
+use crate::runs::put_rule;
 use tc_model::Instr;
 use tc_rules::{Found, Job, KnownRules, Rules};
 
-/// What is to be instantiated on a node: a body, or what the built-in rules say in a mode.
+/// What is to be instantiated on a node: a body, that of a rule by its number, or what the built-in rules say in a mode.
 #[derive(Clone, Copy)]
 pub(crate) enum Template<'b> {
     Body(&'b [Instr<'b>]),
+    Rule(u32, &'b [Instr<'b>]),
     BuiltIn(u32),
 }
 
@@ -44,7 +47,10 @@ pub(crate) fn template_of<'b>(rules: &Rules<'b>, mode: u32, found: Found) -> Tem
 {
     match found {
         Found::BuiltIn => Template::BuiltIn(mode),
-        Found::Rule(number) => Template::Body(rules.sheet().rules[number as usize].body),
+        Found::Rule(number) => {
+            let body = rules.sheet().rules[number as usize].body;
+            Template::Rule(number, body)
+        }
     }
 }
 
@@ -123,17 +129,19 @@ pub(crate) fn are_alike(
 
 /// Puts the pairs of a template.
 pub(crate) fn put_template(place: &Place<'_, '_>, template: Template<'_>, sets: &mut OpenSets)
-    requires place { IsPlace place.now }
+    requires place { IsRulePlace place.now }
     requires part { IsPartTemplate (told place.now.rules.now).sheet template }
     requires sets { IsOpenAt place.now (depth_of template) sets.old }
     ensures same { IsBeside place.now.output.now place.now.outputs.now sets.old sets.new }
-    ensures pairs { (x : Triple) (p : CallFreeBody) → IsPlaceIn x place.now → AreCalled x place.now
+    ensures pairs { (x : Triple) (p : CallFreeBody) → IsRulePlaceIn x place.now
+        → AreCalled x place.now
         → IsTemplate (sheet x).named (built_in_on (kind_of place.now.node)) template.entry p
         → Extends sets.old.out sets.new.out
         (body_pairs x p (kind_of place.now.node) (below_of x place.now)) }
 {
     match template {
         Template::Body(inner) => put_body(place, inner, sets),
+        Template::Rule(number, inner) => put_rule(place, number, inner, sets),
         Template::BuiltIn(mode) => put_built_in(place, mode, sets),
     }
 }

@@ -28,11 +28,11 @@ use tc_alpha::Sym;
 use tc_rules::Kind;
 
 /// Leaves the looks and the entries of a node.
-fn put_node(
-    machine: &Machine<'_>,
+fn put_node<'b>(
+    machine: &Machine<'b>,
     outputs: &mut HeldSets,
     is_fixed: bool,
-    work: &mut Work,
+    work: &mut Work<'b>,
     node: Node<'_>,
     out: &mut Room,
 ) -> Result<(), RowFault>

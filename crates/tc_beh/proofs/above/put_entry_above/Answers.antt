@@ -16,13 +16,16 @@ returns-in-Elem-clause-pairs c = λ x g q at is called lx meant.
     let l = c.args.letter in
     element_put x p g q at.mode l.marks.0 c.args.sets.now.out c.put_hit.new.sets.out c.put_further.new.sets.out c.in-Elem.sym.0 (kind l.kind) (ap kind c.in-Elem.is) c.requires.node
     (c.put_hit.ensures.pairs x g q is called lx at meant)
-    (c.put_further.ensures.pairs x g at is (subst (λ (k : Kind). IsLetter x.symbols (predicates x) (asked.letter k l.marks)) c.in-Elem.is lx))
+    (c.put_further.ensures.pairs x g at is.place (subst (λ (k : Kind). IsLetter x.symbols (predicates x) (asked.letter k l.marks)) c.in-Elem.is lx))
 
 pub returns-in-Text-clause-pairs : goal.returns-in-Text-clause-pairs
 returns-in-Text-clause-pairs c = λ x g q at is called lx meant.
     let p = c.args.place.now in
     let l = c.args.letter in
     text_put x p g q at.mode l.marks.0 c.args.sets.now.out c.put_hit.new.sets.out (kind l.kind) (ap kind c.in-Text.is) c.requires.node (c.put_hit.ensures.pairs x g q is called lx at meant)
+
+pub put_further-requires-clause-place : goal.put_further-requires-clause-place
+put_further-requires-clause-place c = let (x, is) = c.requires.place in (x, is.place)
 
 pub put_further-requires-clause-sets : goal.put_further-requires-clause-sets
 put_further-requires-clause-sets c =

@@ -20,9 +20,9 @@ returns-then-not-sel_hits-clause-pairs c = λ x g q is called lx at meant.
     let r = p.rules.now in
     let l = letter_of c.args.letter in
     let b : PathUse = of_move g.path at.mode in
-    let same = c.sel_hits.ensures x.symbols b g.state is.rules.rules (lettered x r is.rules l lx) (state_told x r is.rules c.args.state b g.state at.state) in
-    hit_none x p is c.args.sets.now.out g q l (kind_of p.node) (below_of x p) c.requires.sets.size
-    (sym (hit_told x r is.rules b g.state l) ∙ (sym same ∙ c.if-not-sel_hits.true))
+    let same = c.sel_hits.ensures x.symbols b g.state is.place.rules.rules (lettered x r is.place.rules l lx) (state_told x r is.place.rules c.args.state b g.state at.state) in
+    hit_none x p is.place c.args.sets.now.out g q l (kind_of p.node) (below_of x p) c.requires.sets.size
+    (sym (hit_told x r is.place.rules b g.state l) ∙ (sym same ∙ c.if-not-sel_hits.true))
 
 pub returns-clause-pairs : goal.returns-clause-pairs
 returns-clause-pairs c = λ x g q is called lx at meant.
@@ -30,11 +30,11 @@ returns-clause-pairs c = λ x g q is called lx at meant.
     let r = p.rules.now in
     let l = letter_of c.args.letter in
     let b : PathUse = of_move g.path at.mode in
-    let st = state_told x r is.rules c.args.state b g.state at.state in
-    let same = c.sel_hits.ensures x.symbols b g.state is.rules.rules (lettered x r is.rules l lx) st in
+    let st = state_told x r is.place.rules c.args.state b g.state at.state in
+    let same = c.sel_hits.ensures x.symbols b g.state is.place.rules.rules (lettered x r is.place.rules l lx) st in
     let body = body_by x.symbols (predicates x) (sheet x).rules x.bodies g.task (ancestor x.rules q) l in
-    hit_some x p is c.args.sets.now.out c.put_template.new.sets.out g q l (kind_of p.node) (below_of x p)
-    (sym (hit_told x r is.rules b g.state l) ∙ (sym same ∙ c.if-not-sel_hits.false))
+    hit_some x p is.place c.args.sets.now.out c.put_template.new.sets.out g q l (kind_of p.node) (below_of x p)
+    (sym (hit_told x r is.place.rules b g.state l) ∙ (sym same ∙ c.if-not-sel_hits.false))
     (c.put_template.ensures.pairs x body is called (meant_on (sheet x).named l.kind (kind_of p.node) c.args.template body c.requires.node meant))
 
 pub returns-then-not-sel_hits-clause-same : goal.returns-then-not-sel_hits-clause-same

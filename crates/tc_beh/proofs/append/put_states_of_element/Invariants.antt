@@ -1,4 +1,5 @@
-use Rattle.std.proofs.Common.{◌≡◌, ◌<◌, ◌≤◌, ◌⊎◌, ◌+◌, ℕ, get_or}
+use Rattle.std.proofs.Common.{◌≡◌, ◌<◌, ◌≤◌, ◌⊎◌, ◌+◌, ℕ, List, get_or}
+use Rattle.tc_beh.specs.Bundles.{AreWordsOf}
 use Rattle.tc_beh.specs.RoomsOf.{IsRoomBeside}
 use Rattle.tc_beh.proofs.Flagging.{PutSoFar}
 use Rattle.tc_beh.proofs.append.put_states_of_element.Given as goal
@@ -7,5 +8,5 @@ abbrev pub invariant-loop-before : goal.invariant-loop-before
 invariant-loop-before l = record {
   beside : IsRoomBeside l.fn.out l.out;
   others : (k : ℕ) → (k < 2) ⊎ (2 + l.fn.out.flags ≤ k) → get_or l.out.numbers.items k 0 ≡ get_or l.fn.out.numbers.items k 0;
-  put : PutSoFar l.fn.auto l.hedge l.before l.patterns l.out.numbers.items;
+  put : (hedge : List ℕ) → AreWordsOf hedge l.bundles.words.bits.items → PutSoFar l.fn.auto hedge l.before l.patterns l.out.numbers.items;
 }

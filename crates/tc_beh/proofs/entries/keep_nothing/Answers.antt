@@ -19,7 +19,7 @@ returns-clause-same c = λ m.
 pub returns-clause-number : goal.returns-clause-number
 returns-clause-number c =
     if_ok_map c.keep_open.result _ _
-    (λ k h. (h.0, subst IsIdentity (sym h.1) c.restart.ensures.out, ap (λ (m : Matrix). m.size) h.1 ∙ (c.restart.ensures.size ∙ (c.requires.size ∙ sym c.keep_open.ensures.held.size))))
+    (λ k h. record { low = h.0; is = subst IsIdentity (sym h.1) c.restart.ensures.out; size = ap (λ (m : Matrix). m.size) h.1 ∙ (c.restart.ensures.size ∙ (c.requires.size ∙ sym c.keep_open.ensures.held.size)) })
     c.keep_open.ensures.number
 
 pub returns-clause-err : goal.returns-clause-err

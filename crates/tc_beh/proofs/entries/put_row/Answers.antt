@@ -15,6 +15,7 @@ use Rattle.tc_beh.proofs.Passing.{if_some_map}
 use Rattle.tc_beh.proofs.Coming.{grounds_kept, read_kept, called_kept, called_back, row_within, comes_step, comes_partly, comes_same}
 use Rattle.tc_beh.proofs.Steps.{not_done}
 use Rattle.tc_beh.proofs.Refusing.{no_error, same_error}
+use Rattle.tc_beh.proofs.Remembering.{nothing_on}
 use Rattle.tc_beh.proofs.entries.put_row.Goals as goal
 
 pub loop-state-init : goal.loop-state-init
@@ -56,6 +57,14 @@ keep_entry-requires-clause-grounds c =
     let (x, ok) = c.requires.grounds in
     let so_far = c.loop-state.invariant in
     (x, grounds_kept x c.args.machine.now c.args.outputs.now c.loop-state.outputs so_far.held c.args.work.now c.args.node ok c.loop-state.work (so_far.work x ok))
+
+pub keep_entry-requires-clause-nothing : goal.keep_entry-requires-clause-nothing
+keep_entry-requires-clause-nothing c =
+    let (x, ok) = c.requires.grounds in
+    let a = c.args.outputs.now in
+    if_some_map c.held_nothing-nothing.result _ _ (λ k h.
+    let (low, is, size) = h a ok.work.links in
+    nothing_on a c.loop-state.outputs c.loop-state.invariant.held k (record { low = low; is = is; size = size ∙ (ok.work.open_size ∙ sym ok.size) })) c.held_nothing-nothing.ensures
 
 pub returns-in_err-number-clause-work : goal.returns-in_err-number-clause-work
 returns-in_err-number-clause-work c = λ x ok.

@@ -15,6 +15,7 @@ use Rattle.tc_beh.specs.Putting.{IsCalled}
 use Rattle.tc_beh.proofs.Nodes.{open_for, work_filled}
 use Rattle.tc_beh.proofs.OpenLaws.{beside_self, beside_then}
 use Rattle.tc_beh.proofs.Rooted.{is_ground, is_placed, root_depth, root_put}
+use Rattle.tc_beh.proofs.RunLaws.{no_runs_at}
 use Rattle.tc_beh.proofs.root.put_root.Goals as goal
 
 abbrev count_of : List Matrix → ℕ
@@ -32,11 +33,13 @@ put_on_root-requires-clause-place c =
     let count = c.put_named.auto.named ∙ (ap count_of c.as_mut_slice.ensures.value ∙ sym w.named.ok.0) in
     let value = c.as_slice-2.ensures.value ∙ with_items_is w.named c.put_named.new.named count in (
       x,
-      is_placed x c.args.machine.now c.args.outputs.now w c.args.tree.now is _ refl refl c.bears.ensures c.outputs.ensures.value c.looks.ensures.value refl c.len-held.ensures.matrices refl refl refl refl
+      no_runs_at x _
+          (is_placed x c.args.machine.now c.args.outputs.now w c.args.tree.now is _ refl refl c.bears.ensures c.outputs.ensures.value c.looks.ensures.value refl c.len-held.ensures.matrices refl refl refl refl
           record {
             count = ap count_of value ∙ c.put_named.ensures.named.count;
             sizes = subst (λ (l : List Matrix). All (λ (e : Matrix). e.size ≡ w.text.size) l) (sym value) c.put_named.ensures.named.sizes;
-          },
+          })
+          refl,
     )
 
 pub put_on_root-requires-clause-sets : goal.put_on_root-requires-clause-sets
@@ -68,11 +71,13 @@ returns-clause-pairs c = λ x is.
     let value = c.as_slice-2.ensures.value ∙ with_items_is w.named c.put_named.new.named count in
     let all = c.len-held.ensures.matrices in
     let put = c.put_on_root.ensures.pairs x
+    (no_runs_at x _
     (is_placed x m held w c.args.tree.now is _ refl refl c.bears.ensures c.outputs.ensures.value c.looks.ensures.value refl all refl refl refl refl
     record {
       count = ap count_of value ∙ c.put_named.ensures.named.count;
       sizes = subst (λ (l : List Matrix). All (λ (e : Matrix). e.size ≡ w.text.size) l) (sym value) c.put_named.ensures.named.sizes;
     })
+    refl)
     (λ n. subst (λ (l : List Matrix). IsCalled x on_root down (called_from l) n) (sym value)
     (c.put_named.ensures.called x n (is_ground x m held w c.args.tree.now is _ refl refl c.bears.ensures c.outputs.ensures.value c.looks.ensures.value refl all refl refl refl refl))) in
     root_put x m held w c.args.tree.now is all c.bears.result os vs c.bears.ensures c.outputs.ensures.value c.looks.ensures.value c.restart.new.self.out c.put_on_root.new.sets.out

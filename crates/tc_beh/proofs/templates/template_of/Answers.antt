@@ -3,6 +3,7 @@ use Rattle.tc_rules.specs.Kept.{told}
 use Rattle.tc_model.specs.Views as see
 use Rattle.tc_beh.proofs.Deepest.{rule_in_sheet}
 use Rattle.tc_beh.proofs.Meant.{no_rule, found_low, found_number, rule_got, rule_part_at, rule_meant}
+use Rattle.tc_beh.proofs.RunLaws.{rule_body_got}
 use Rattle.tc_beh.proofs.templates.template_of.Goals as goal
 
 pub returns-in-Rule-clause-part : goal.returns-in-Rule-clause-part
@@ -11,7 +12,8 @@ returns-in-Rule-clause-part c =
     let (x, is) = c.requires.rules in
     let rule = get_or c.sheet.result.now.rules.now c.in-Rule.number no_rule in
     let low = found_low c.args.found c.in-Rule.number _ c.in-Rule.is c.requires.found in
-    rule_part_at r x is c.in-Rule.number rule (rule_got (told r).sheet c.sheet.result.now c.in-Rule.number no_rule c.sheet.ensures low)
+    let got = rule_got (told r).sheet c.sheet.result.now c.in-Rule.number no_rule c.sheet.ensures low in
+    (rule_part_at r x is c.in-Rule.number rule got, rule_body_got (told r).sheet c.in-Rule.number (see.rule rule) got)
 
 pub returns-in-Rule-clause-meant : goal.returns-in-Rule-clause-meant
 returns-in-Rule-clause-meant c = λ x own o is e.

@@ -5,7 +5,8 @@ use Rattle.tc_auto.specs.declared.auto.Auto.{Auto}
 use Rattle.tc_hedge.proofs.Bounds.{patterns_of}
 use Rattle.tc_beh.specs.Held.{Grows}
 use Rattle.tc_beh.specs.Rooms.{output_at}
-use Rattle.tc_beh.proofs.Nodes.{work_set}
+use Rattle.tc_beh.specs.Bundles.{AreStepsOf}
+use Rattle.tc_beh.proofs.Nodes.{work_set, work_steps}
 use Rattle.tc_beh.proofs.Holding.{extends_self, on_err}
 use Rattle.tc_beh.proofs.Appends.{is_live, isnt_live, appended, refused}
 use Rattle.tc_beh.proofs.WrapRows.{beside_then, rows_after}
@@ -17,6 +18,11 @@ pub put_kind-requires-clause-patterns : goal.put_kind-requires-clause-patterns
 put_kind-requires-clause-patterns c =
     let (x, is) = c.requires.rows in
     (c.requires.tree x is).parted.flags ∙ sym (patterns_of input x.input c.auto.result.now (subst (λ (a : Auto). Stands input x.input a) (sym c.auto.ensures) is.machine.parts.contents.auto))
+
+pub put_kind-requires-clause-steps : goal.put_kind-requires-clause-steps
+put_kind-requires-clause-steps c =
+    let (x, is) = c.requires.rows in
+    subst (λ (a : Auto). AreStepsOf a c.args.self.now.work.bundles) (sym c.auto.ensures) is.work.bundles
 
 pub put_append-requires-clause-first : goal.put_append-requires-clause-first
 put_append-requires-clause-first c = λ i low.
@@ -132,13 +138,19 @@ returns-in_err-put_append-clause-partly c =
 
 pub returns-clause-rows : goal.returns-clause-rows
 returns-clause-rows c = λ x is.
-    rows_after x c.args.self.now is c.put_append.new.outputs c.put_append.ensures.held (record c.args.self.now.work { set = c.put_append.new.set })
-    (work_set x c.args.self.now.machine.now c.args.self.now.outputs c.args.self.now.work is.work c.put_append.new.outputs c.put_append.ensures.held c.put_append.new.set c.put_append.ensures.set) _ refl refl refl
+    let w = c.args.self.now.work in
+    let steps = subst (λ (a : Auto). AreStepsOf a c.put_kind.new.bundles) c.auto.ensures c.put_kind.ensures.steps in
+    rows_after x c.args.self.now is c.put_append.new.outputs c.put_append.ensures.held (record w { set = c.put_append.new.set; bundles = c.put_kind.new.bundles })
+    (work_set x c.args.self.now.machine.now c.args.self.now.outputs (record w { bundles = c.put_kind.new.bundles }) (work_steps x c.args.self.now.machine.now c.args.self.now.outputs w is.work c.put_kind.new.bundles steps)
+    c.put_append.new.outputs c.put_append.ensures.held c.put_append.new.set c.put_append.ensures.set) _ refl refl refl
 
 pub returns-in_err-put_append-clause-rows : goal.returns-in_err-put_append-clause-rows
 returns-in_err-put_append-clause-rows c = λ x is.
-    rows_after x c.args.self.now is c.put_append.new.outputs c.put_append.ensures.held (record c.args.self.now.work { set = c.put_append.new.set })
-    (work_set x c.args.self.now.machine.now c.args.self.now.outputs c.args.self.now.work is.work c.put_append.new.outputs c.put_append.ensures.held c.put_append.new.set c.put_append.ensures.set) _ refl refl refl
+    let w = c.args.self.now.work in
+    let steps = subst (λ (a : Auto). AreStepsOf a c.put_kind.new.bundles) c.auto.ensures c.put_kind.ensures.steps in
+    rows_after x c.args.self.now is c.put_append.new.outputs c.put_append.ensures.held (record w { set = c.put_append.new.set; bundles = c.put_kind.new.bundles })
+    (work_set x c.args.self.now.machine.now c.args.self.now.outputs (record w { bundles = c.put_kind.new.bundles }) (work_steps x c.args.self.now.machine.now c.args.self.now.outputs w is.work c.put_kind.new.bundles steps)
+    c.put_append.new.outputs c.put_append.ensures.held c.put_append.new.set c.put_append.ensures.set) _ refl refl refl
 
 pub returns-clause-room : goal.returns-clause-room
 returns-clause-room c = beside_then c.args.out.now.room c.put_kind.new.out c.put_append.new.out c.put_kind.ensures.beside c.put_append.ensures.beside
@@ -185,7 +197,11 @@ pub returns-clause-held : goal.returns-clause-held
 returns-clause-held c = c.put_append.ensures.held
 
 pub returns-then-not-put_kind-clause-rows : goal.returns-then-not-put_kind-clause-rows
-returns-then-not-put_kind-clause-rows c = λ x rows. rows
+returns-then-not-put_kind-clause-rows c = λ x is.
+    let w = c.args.self.now.work in
+    let held = c.args.self.now.outputs in
+    let steps = subst (λ (a : Auto). AreStepsOf a c.put_kind.new.bundles) c.auto.ensures c.put_kind.ensures.steps in
+    rows_after x c.args.self.now is held (extends_self held) (record w { bundles = c.put_kind.new.bundles }) (work_steps x c.args.self.now.machine.now held w is.work c.put_kind.new.bundles steps) _ refl refl refl
 
 pub returns-then-not-put_kind-clause-fixed : goal.returns-then-not-put_kind-clause-fixed
 returns-then-not-put_kind-clause-fixed c = λ e. refl

@@ -6,6 +6,8 @@ use Rattle.tc_model.specs.Views as see
 use Rattle.tc_auto.specs.Stands as a
 use Rattle.tc_auto.specs.declared.auto.Auto.{Auto}
 use Rattle.tc_rows.specs.Triples.{outputs, sheet}
+use Rattle.tc_beh.specs.Bundles.{AreStepsOf}
+use Rattle.tc_beh.proofs.RunLaws.{no_runs}
 use Rattle.tc_beh.proofs.Sizes.{sheet_is}
 use Rattle.tc_beh.proofs.Steps.{no_value}
 use Rattle.tc_beh.proofs.rows.Work.new.Goals as goal
@@ -31,6 +33,8 @@ returns c = λ x h is.
       remembers = c.in_ok-sets.ensures.remembers m.output;
       links = c.in_ok-sets.ensures.links h;
       known = c.in_ok-known.ensures x.symbols x.rules;
+      bundles = subst (λ (b : Auto). AreStepsOf b c.in_ok-bundles.bundles) c.auto-2.ensures c.in_ok-bundles.ensures;
+      runs = no_runs x c.new-runs.result.items c.new-runs.ensures.items;
     }
 
 pub returns-in_err-text : goal.returns-in_err-text
@@ -47,3 +51,6 @@ returns-in_err-sets c = no_value c.from_residual-in_err-sets.result _ _ c.from_r
 
 pub returns-in_err-known : goal.returns-in_err-known
 returns-in_err-known c = no_value c.from_residual-in_err-known.result _ _ c.from_residual-in_err-known.ensures.1
+
+pub returns-in_err-bundles : goal.returns-in_err-bundles
+returns-in_err-bundles c = no_value c.from_residual-in_err-bundles.result _ _ c.from_residual-in_err-bundles.ensures.1
