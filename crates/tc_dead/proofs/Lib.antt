@@ -9,3 +9,4 @@ pub mod PlainSeen
 pub mod LawfulMarks
 pub mod MarkSteps
 pub mod MarkSymbols
+pub mod OnlySpots

@@ -9,11 +9,17 @@ use Rattle.tc_model.specs.Meaning.{rule_of}
 use Rattle.tc_model.specs.Symbols.{symbols_of}
 use Rattle.tc_model.specs.Numberings.{predicates_of, moves_of, looks_of}
 use Rattle.tc_dead.specs.Spots.{Spot, spots_of, numbered_rules, numbered_rule_of}
+use Rattle.tc_model.specs.Trees.{Trees}
+use Rattle.tc_dead.specs.Instantiated.{IsInstantiated}
 use Rattle.tc_dead.specs.Marked.{marked_at, plain_schema}
 
 -- the numbered rule of a node is the rule of the node
 abbrev pub IsRuleOfNode : Type 0
 IsRuleOfNode = (s : Sheet) (m : ℕ) (c : Chain) → rule_of s.rules m c ≡ option_map (λ r. r.rule) (numbered_rule_of (numbered_rules s) m c)
+
+-- a document instantiates spots of the stylesheet alone
+abbrev pub AreSpots : Type 0
+AreSpots = (s : Sheet) (d : Trees) (p : Spot) → IsInstantiated s d p → Contains (spots_of s) p
 
 -- the plain schema is well-formed
 abbrev pub IsPlainLawful : Type 0

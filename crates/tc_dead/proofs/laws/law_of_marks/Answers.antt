@@ -1,3 +1,4 @@
+use Rattle.tc_dead.proofs.OnlySpots.{are_spots}
 use Rattle.tc_dead.proofs.NumberedSpots.{rule_of_node}
 use Rattle.tc_dead.proofs.SameParts.{same_predicates, same_patterns, same_looks, same_moves}
 use Rattle.tc_dead.proofs.Lawful.{lawful_schema}
@@ -6,6 +7,9 @@ use Rattle.tc_dead.proofs.laws.law_of_marks.Goals as goal
 
 pub returns-clause-rule : goal.returns-clause-rule
 returns-clause-rule c = rule_of_node
+
+pub returns-clause-spots : goal.returns-clause-spots
+returns-clause-spots c = are_spots
 
 pub returns-clause-lawful : goal.returns-clause-lawful
 returns-clause-lawful c = lawful_schema
