@@ -1,37 +1,33 @@
 -- What is found decides: each verdict and each failure by its cause, and the causes exclude one another.
-use Rattle.std.proofs.Common.{◌≡◌, ◌⊎◌, inl, inr, refl, subst, ℕ, List, Result, Ok, Err, arith}
+use Rattle.std.proofs.Common.{◌≡◌, ◌⊎◌, inl, inr, refl, subst, ℕ, Result, Ok, Err, arith}
 use Rattle.tc_close.specs.Decisions.{IsDecided, IsCloseCause}
 use Rattle.tc_close.specs.declared.decision.CloseFault.{CloseFault}
 use Rattle.tc_close.specs.declared.decision.CloseFault.TheVariants.{TooManyTrees, TooManyHedges, TooManyOutputs, NoMemory as close_memory}
 use Rattle.tc_close.specs.declared.decision.Counts.{Counts}
 use Rattle.tc_close.specs.declared.decision.Decision.TheVariants as decision
 use Rattle.tc_decide.specs.Checking.{IsWithinTripleLimits, IsCounter, IsLeastCounter, HasSmallCounter, HasLargeCounters}
-use Rattle.tc_decide.specs.Deciding.{OnSafe, IfUnsafe, AreAccepted, TellsRefusal, IsShownBy, KeepsAll, PassesFirst, IsOutputOf, DecidesSafety, TellsCounts}
+use Rattle.tc_decide.specs.Deciding.{OnSafe, IfUnsafe, IsShownBy, KeepsAll, PassesFirst, IsOutputOf, DecidesSafety, TellsCounts}
 use Rattle.tc_decide.specs.RowCounts.{trees, hedges, outputs, row_count}
-use Rattle.tc_decide.specs.Texts.{Spells}
-use Rattle.tc_decide.specs.TextsSeen.{of_close, IsMachineOfTexts, StopsTexts, IsFound, IsFoundOfTexts}
+use Rattle.tc_decide.specs.TextsSeen.{of_close, IsFound}
 use Rattle.tc_decide.specs.declared.failure.Failure.{Failure}
 use Rattle.tc_decide.specs.declared.failure.Failure.TheVariants.{Refused, Passes, NoMemory}
 use Rattle.tc_decide.specs.declared.failure.Kind.{Kind}
-use Rattle.tc_decide.specs.declared.failure.Kind.TheVariants.{Texts, Rows, Nodes}
-use Rattle.tc_decide.specs.declared.failure.Which.TheVariants as which
+use Rattle.tc_decide.specs.declared.failure.Kind.TheVariants.{Texts, Rows, Nodes, Certificate, Work, Open}
 use Rattle.tc_decide.specs.declared.limits.TheConstants.{MOST_SHOWN_NODES}
-use Rattle.tc_decide.specs.declared.schemas.SchemaText.{SchemaText}
 use Rattle.tc_decide.specs.declared.verdict.Output.{Output}
 use Rattle.tc_decide.specs.declared.verdict.Output.TheVariants.{Shown, TooLarge}
 use Rattle.tc_decide.specs.declared.verdict.Verdict.{Verdict}
 use Rattle.tc_decide.specs.declared.verdict.Verdict.TheVariants.{Safe, Unsafe}
 use Rattle.tc_decide.proofs.Passing.{over_triple}
-use Rattle.tc_decide.proofs.SchemaTexts.{one_schema, no_schema}
-use Rattle.tc_decide.proofs.Sheets.{no_sheet, one_sheet_of, one_result}
-use Rattle.tc_decide.proofs.Triples.{itself, few_rows, least_counter, of_triple}
+use Rattle.tc_decide.proofs.Found.{FindsLimits}
+use Rattle.tc_decide.proofs.Sheets.{one_result}
+use Rattle.tc_decide.proofs.Triples.{itself, few_rows, least_counter}
 use Rattle.tc_model.specs.Grammars.{Grammar}
 use Rattle.tc_model.specs.Safety.{IsSafe}
 use Rattle.tc_model.specs.Sheets.{Sheet}
 use Rattle.tc_model.specs.Trees.{Trees, none}
 use Rattle.tc_model.specs.Validity.{IsValidOutput}
 use Rattle.tc_model.specs.Views as see
-use Rattle.tc_read.specs.Sheets.{IsSheetOf}
 use Rattle.tc_rows.specs.Triples as t
 use Rattle.tc_rows.specs.Triples.{Triple, IsTriple}
 
@@ -50,9 +46,12 @@ small_far (document, counter, few) large = let far = large.large document counte
 
 module _ (most : ℕ) (i o : Grammar) (s : Sheet) where
   -- a limit that is passed isn't kept, and then there is neither yes nor no
-  not_kept : (kind : Kind) (number : ℕ) → PassesFirst i o s most kind number → KeepsAll i o s most → (IsSafe i o s ⊎ HasSmallCounter i o s) → ⊥
+  pub not_kept : (kind : Kind) (number : ℕ) → PassesFirst i o s most kind number → KeepsAll i o s most → (IsSafe i o s ⊎ HasSmallCounter i o s) → ⊥
   not_kept (Texts kind) number p k d = over_triple p k.0
   not_kept (Rows count) number p k d = k.1 (row_count count) p.1
+  not_kept Certificate number p k d = absurd p
+  not_kept Work number p k d = absurd p
+  not_kept Open number p k d = absurd p
   not_kept Nodes number p k (inl safe) = not_both i o s safe p.1.some.1
   not_kept Nodes number p k (inr small) = small_far small p.1
 
@@ -64,7 +63,7 @@ module _ (most : ℕ) (i o : Grammar) (s : Sheet) where
     limit = (λ e. absurd e, λ (kind, number, p). absurd (not_kept kind number p k (inl h)));
   }
 
-  small_of : {document : Trees} → IsLeastCounter i o s document → HasSmallCounter i o s
+  pub small_of : {document : Trees} → IsLeastCounter i o s document → HasSmallCounter i o s
   small_of {document} l = (document, l.counter, l.few)
 
   is_no : (document : _) (output : Output) → KeepsAll i o s most → IsLeastCounter i o s (see.before document none) → IsOutputOf s (see.before document none) output
@@ -94,7 +93,7 @@ module _ (most : ℕ) (i o : Grammar) (s : Sheet) where
   says_safe (Err failure) f = tt
 
   -- the result that is shown of a counterexample isn't valid
-  shown_by : (document : Trees) (output : Output) → IsCounter i o s document → IsOutputOf s document output → IsShownBy i o s document output
+  pub shown_by : (document : Trees) (output : Output) → IsCounter i o s document → IsOutputOf s document output → IsShownBy i o s document output
   shown_by document (Shown output) (result, c) r =
       (c.0, r.1, subst (λ (w : Trees). IsValidOutput o w → ⊥) (one_result s document result (see.trees output.now) c.1 r.1) c.2)
   shown_by document TooLarge c r = c
@@ -111,45 +110,9 @@ module _ (most : ℕ) (i o : Grammar) (s : Sheet) where
   counts (Err (Passes kind number)) f = f
   counts (Err NoMemory) f = tt
 
--- what is found of equal schemas and stylesheets
-found_at : (most : ℕ) (result : Result Verdict Failure) {i j o p : Grammar} {s z : Sheet} → i ≡ j → o ≡ p → s ≡ z → IsFound most i o s result → IsFound most j p z result
-found_at most result {i} {j} {o} {p} {s} {z} a b c x =
-    subst (λ (w : Sheet). IsFound most j p w result) c (subst (λ (w : Grammar). IsFound most j w s result) b (subst (λ (w : Grammar). IsFound most w o s result) a x))
-
-module _ (most : ℕ) (input output : SchemaText) (sheet : List ℕ) where
-  -- what is found of the schemas and the stylesheet that the texts spell is found of all that they spell
-  found_of_all : (i o : Grammar) (s : Sheet) (result : Result Verdict Failure) → Spells input i → Spells output o → IsSheetOf sheet s → IsFound most i o s result
-      → (j p : Grammar) (z : Sheet) → Spells input j → Spells output p → IsSheetOf sheet z → IsFound most j p z result
-  found_of_all i o s result a b c f j p z x y w = found_at most result (one_schema input i j a x) (one_schema output o p b y) (one_sheet_of c w) f
-
-  -- whoever finds something has accepted the texts
-  tells : (i o : Grammar) (s : Sheet) (result : Result Verdict Failure) → AreAccepted input output sheet → IsFound most i o s result → TellsRefusal input output sheet result
-  tells i o s (Ok verdict) a f = a
-  tells i o s (Err (Refused which reason at)) a f = absurd f
-  tells i o s (Err (Passes kind number)) a f = a
-  tells i o s (Err NoMemory) a f = tt
-
-  of_these : (i o : Grammar) (s : Sheet) (result : Result Verdict Failure) → Spells input i → Spells output o → IsSheetOf sheet s → IsFound most i o s result → IsFoundOfTexts most input output sheet result
-  of_these i o s result a b c f = record {
-    refusal = tells i o s result (record { input_spells = (i, a); output_spells = (o, b); sheet_spells = (s, c) }) f;
-    found = found_of_all i o s result a b c f;
-  }
-
-  -- what the machine of the texts finds
-  pub by_machine : (m : _) (result : Result Verdict Failure) (texts : IsMachineOfTexts input output sheet m)
-      → IsFound most texts.machine.triple.input texts.machine.triple.output (t.sheet texts.machine.triple) result → IsFoundOfTexts most input output sheet result
-  by_machine m result texts f =
-      of_these texts.i texts.o texts.s result texts.input_spells texts.output_spells texts.sheet_spells (of_triple (λ i o s. IsFound most i o s result) texts.machine.of f)
-
-  -- what stops the texts
-  pub stopped : (failure : Failure) → StopsTexts input output sheet failure → IsFoundOfTexts most input output sheet (Err failure)
-  stopped (Passes (Texts kind) number) p = of_these p.i p.o p.s (Err (Passes (Texts kind) number)) p.input_spells p.output_spells p.sheet_spells p.passes
-  stopped (Passes (Rows count) number) p = absurd p
-  stopped (Passes Nodes number) p = absurd p
-  stopped (Refused which.Input reason at) r = record { refusal = r; found = λ i o s a b c. absurd (no_schema input i reason (see.place at) r a) }
-  stopped (Refused which.Output reason at) r = record { refusal = r; found = λ i o s a b c. absurd (no_schema output o reason (see.place at) r.1 b) }
-  stopped (Refused which.Sheet reason at) r = record { refusal = r; found = λ i o s a b c. absurd (no_sheet reason (see.place at) r.2 c) }
-  stopped NoMemory r = record { refusal = tt; found = λ i o s a b c. tt }
+-- what is found tells no refusal, and tells each limit that is passed before rows are tried
+pub found_texts : (most : ℕ) → FindsLimits (IsFound most)
+found_texts most = record { refused = λ i o s which reason at h. h; passed = λ i o s kind number p. p; memory = λ i o s. tt }
 
 -- what is decided of a machine
 

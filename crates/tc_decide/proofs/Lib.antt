@@ -4,8 +4,17 @@ pub mod Passing
 pub mod SchemaTexts
 pub mod Triples
 pub mod MachineLimits
+pub mod Found
 pub mod Deciding
+pub mod Proving
+pub mod Verifications
+pub mod Nothing
+pub mod Runs
+pub mod Compared
+pub mod ComparedTexts
 pub mod TextsRead
 pub mod Using
+pub mod CopiedTrees
+pub mod SpotLimits
 pub mod Stages
 pub mod SpotsTold

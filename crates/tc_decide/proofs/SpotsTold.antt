@@ -1,14 +1,14 @@
 -- What is told of all spots of a stylesheet, one after the other.
-use Rattle.std.proofs.Common.{◌≡◌, ◌⊎◌, inl, inr, ◌<◌, ◌≤◌, ◌+◌, ◌-◌, ◌∙◌, refl, sym, ap, subst, ℕ, zero, suc, List, [], ◌∷◌, ◌++◌, append_assoc, append-nil, length, map, take, drop, get_or, All, Contains, Result, Ok, Err, IfOk, Bor, arith}
+use Rattle.std.proofs.Common.{◌≡◌, ◌⊎◌, inl, inr, ◌<◌, ◌≤◌, ◌+◌, ◌-◌, ◌∙◌, refl, sym, ap, subst, ℕ, zero, suc, List, [], ◌∷◌, ◌++◌, append_assoc, append-nil, length, map, take, drop, get_or, All, Contains, Ok, Err, IfOk, arith}
 use Rattle.std.proofs.lemmas.List.{drop_more, drop_all, take_all, length-drop, get_or-map}
-use Rattle.std.proofs.lemmas.List.Elements.{All-push, All-take, All-drop}
+use Rattle.std.proofs.lemmas.List.Elements.{All-push, All-take, All-drop, Contains-append_left}
 use Rattle.tc_dead.specs.Instantiated.{IsDead}
 use Rattle.tc_dead.specs.Marked.{marked_at, plain_schema}
 use Rattle.tc_dead.specs.Spots.{Spot, spots_of}
 use Rattle.tc_dead.specs.Tells.{Tells}
 use Rattle.tc_dead.specs.Views.{seen}
 use Rattle.tc_dead.specs.declared.spots.Spot.{Spot as ArenaSpot}
-use Rattle.tc_decide.specs.DeadSpots.{Answer, TellsRefusalOfTwo, OnDead, IfUsed, Uses, IsLeastUse, HasLargeUses, TellsSpot, KeepsSpot, KeepSpots, PassSpots, TellsSpots}
+use Rattle.tc_decide.specs.DeadSpots.{Answer, TellsRefusalOfTwo, OnDead, IfUsed, Uses, TellsSpot, KeepsSpot, KeepSpots, OfEach, TellsSpots}
 use Rattle.tc_decide.specs.DeadSpotsSeen.{IsMarkingOf, IsTelling, StopsTwo, IsTold, IsToldOf, StopsSpot, StopsSpots, IsFoundOfSpots, IsFoundOfTwo}
 use Rattle.tc_decide.specs.Checking.{PassesTripleLimit}
 use Rattle.tc_decide.specs.MachinesSeen.{IsReadOf, IsCauseBy}
@@ -18,7 +18,6 @@ use Rattle.tc_decide.specs.declared.machine.LimitFault.{LimitFault}
 use Rattle.tc_decide.specs.declared.machine.LimitFault.TheVariants as limit
 use Rattle.tc_decide.specs.declared.failure.Failure.{Failure}
 use Rattle.tc_decide.specs.declared.failure.Failure.TheVariants.{Refused, Passes, NoMemory}
-use Rattle.tc_decide.specs.declared.failure.Kind.{Kind}
 use Rattle.tc_decide.specs.declared.failure.Which.TheVariants as which
 use Rattle.tc_decide.specs.declared.schemas.SchemaText.{SchemaText}
 use Rattle.tc_decide.specs.declared.spots.Marking.{Marking}
@@ -27,7 +26,7 @@ use Rattle.tc_decide.specs.declared.spots.Told.{Told}
 use Rattle.tc_decide.specs.declared.spots.Told.TheVariants.{Dead, Used, UsedTooLarge}
 use Rattle.tc_decide.proofs.SchemaTexts.{one_schema, no_schema, read_of}
 use Rattle.tc_decide.proofs.Sheets.{no_sheet, one_sheet_of}
-use Rattle.tc_decide.proofs.Stages.{first_stop, not_all, same_stage}
+use Rattle.tc_decide.proofs.Stages.{joined, first_stop, not_all, same_stage}
 use Rattle.tc_model.specs.Grammars.{Grammar}
 use Rattle.tc_model.specs.Safety.{IsResultOf}
 use Rattle.tc_model.specs.Sheets.{Sheet}
@@ -65,6 +64,17 @@ spot_at spots all k d e h =
 pub spots_later : (spots : List ArenaSpot) (all : List Spot) (n k : ℕ) → map seen spots ≡ all → All (λ p. Contains all (seen p)) (take n (drop k spots))
 spots_later spots all n k e =
     All-take (λ (p : ArenaSpot). Contains all (seen p)) n (drop k spots) (All-drop (λ (p : ArenaSpot). Contains all (seen p)) k spots (λ j d h. spot_at spots all j d e h))
+
+-- what is so of each spot of an arena
+each_seen : (P : Spot → Type 0) (xs : List ArenaSpot) → All (λ x. P (seen x)) xs → (p : Spot) → Contains (map seen xs) p → P p
+each_seen P [] all p (k, l, e) = absurd (omega (arith, l))
+each_seen P (x ∷ xs) all p (zero, l, e) = subst P e (all 0 x (omega arith))
+each_seen P (x ∷ xs) all p (suc k, l, e) = each_seen P xs (λ j d h. all (suc j) d (omega (arith, h))) p (k, omega (arith, l), e)
+
+-- those that were looked at and those that come later are spots of the stylesheet, however they are parted
+pub all_in : (whole ps qs rest : List Spot) (later : List ArenaSpot) → OfEach ps (Contains whole) → All (λ p. Contains whole (seen p)) later → qs ++ rest ≡ ps ++ map seen later → OfEach (qs ++ rest) (Contains whole)
+all_in whole ps qs rest later inside all same =
+    subst (λ (z : List Spot). OfEach z (Contains whole)) (sym same) (joined (Contains whole) ps (map seen later) inside (each_seen (Contains whole) later all))
 
 pub rest_is : (spots : List ArenaSpot) (k : ℕ) → take (length spots - k) (drop k spots) ≡ drop k spots
 rest_is spots k = take_all (length spots - k) (drop k spots) (omega (arith, length-drop k spots))
@@ -110,12 +120,14 @@ module _ (i : Grammar) (s : Sheet) where
   -- the next one passes one, and then those after it are looked at
   pub stopped_at : (k : ℕ) (spots rest : List ArenaSpot) (ts : List SpotTold) (d : ArenaSpot) (e last : Failure) → k < length spots → rest ≡ drop (k + 1) spots → map seen spots ≡ spots_of s
       → spots_told ts ++ map seen (drop k spots) ≡ map seen spots → AreTold ts → StopsSpot i s (seen (get_or spots k d)) e
-      → ((ps : List Spot) → StopsSpots i s ps e → StopsSpots i s (ps ++ map seen rest) last) → StopsSpots i s (spots_of s) last
+      → ((ps : List Spot) → OfEach ps (Contains (spots_of s)) → StopsSpots i s ps e → StopsSpots i s (ps ++ map seen rest) last) → StopsSpots i s (spots_of s) last
   stopped_at k spots rest ts d e last h is all so_far told stops later =
       let p : Spot = seen (get_or spots k d) in
       let same : (spots_told ts ++ p ∷ []) ++ map seen rest ≡ spots_of s =
       ap (λ z. (spots_told ts ++ p ∷ []) ++ map seen z) is ∙ (later_more k spots d (spots_told ts) (map seen spots) h so_far ∙ all) in
-      subst (λ (z : List Spot). StopsSpots i s z last) same (later (spots_told ts ++ p ∷ []) (first_stop i s (spots_told ts) p e (all_kept ts told) stops))
+      let inside : OfEach (spots_told ts ++ p ∷ []) (Contains (spots_of s)) =
+      λ q c. subst (λ (z : List Spot). Contains z q) same (Contains-append_left (spots_told ts ++ p ∷ []) (map seen rest) q c) in
+      subst (λ (z : List Spot). StopsSpots i s z last) same (later (spots_told ts ++ p ∷ []) inside (first_stop i s (spots_told ts) p e (all_kept ts told) stops))
 
   -- what is told of each is what it says
 
@@ -149,7 +161,7 @@ module _ (i : Grammar) (s : Sheet) where
   if_used : (p : Spot) (told : Told) → IsTold i s p told → IfUsed told (Uses i s p)
   if_used p Dead h = tt
   if_used p (Used document) h = h.uses
-  if_used p UsedTooLarge h = tt
+  if_used p UsedTooLarge h = h.some
 
   pub unused : (answer : Answer) → IsFoundOfSpots i s answer → IfOk answer (λ told. All (λ t. OnDead t.told (IsDead i s (seen t.spot))) told.now)
   unused (Ok told) f = λ k d h. on_dead _ _ (f.1 k d h).tells
@@ -206,6 +218,7 @@ module _ (input : SchemaText) (sheet : List ℕ) where
   stopped_texts (Passes kind number) h = absurd h
   stopped_texts (Refused which.Input reason at) h = record { refusal = h; found = λ i s a b. absurd (no_schema input i reason (see.place at) h a) }
   stopped_texts (Refused which.Output reason at) h = absurd h
+  stopped_texts (Refused which.Document reason at) h = absurd h
   stopped_texts (Refused which.Sheet reason at) h = record { refusal = h; found = λ i s a b. absurd (no_sheet reason (see.place at) h.1 b) }
   stopped_texts NoMemory h = record { refusal = tt; found = λ i s a b. tt }
 

@@ -6,19 +6,20 @@ use Rattle.tc_base.specs.declared.Limit.{Limit}
 use Rattle.tc_base.specs.declared.Limit.TheVariants.{Calls, Entries}
 use Rattle.tc_base.specs.declared.limits.TheConstants.{DEEPEST_CALLS, MOST_ENTRIES}
 use Rattle.tc_dead.specs.Marked.{marked_at, plain_schema}
-use Rattle.tc_dead.specs.Spots.{Spot}
+use Rattle.tc_dead.specs.Spots.{Spot, spots_of}
 use Rattle.tc_decide.specs.Checking.{most_of, IsWithinTripleLimits, PassesTripleLimit, by_input, by_output, by_sheet, HasManyEntries, HasManyRows}
 use Rattle.tc_decide.specs.Checking as triple
-use Rattle.tc_decide.specs.DeadSpots.{stage, KeepsSheetLimits, KeepsCalls, IsWithinSpotLimits, KeepsSpot, OfEach, KeepSpots, PassSpots, by_text, by_calls, by_entries, by_rows}
+use Rattle.tc_decide.specs.DeadSpots.{stage, KeepsSheetLimits, KeepsCalls, IsWithinSpotLimits, OfEach, KeepSpots, PassSpots, by_text, by_calls, by_entries, by_rows}
 use Rattle.tc_decide.specs.DeadSpotsSeen.{stage_of, StopsSpot, StopsSpots}
 use Rattle.tc_decide.specs.Limits.{PassesLimit, passes_size, passes_states, SheetPasses, sheet_symbols, sheet_predicates, sheet_ancestors, sheet_selects}
 use Rattle.tc_decide.specs.RowCounts.{row_count}
 use Rattle.tc_decide.specs.declared.failure.Failure.{Failure}
 use Rattle.tc_decide.specs.declared.failure.Failure.TheVariants.{Refused, Passes, NoMemory}
 use Rattle.tc_decide.specs.declared.failure.Kind.{Kind}
-use Rattle.tc_decide.specs.declared.failure.Kind.TheVariants.{Texts, Rows, Nodes}
+use Rattle.tc_decide.specs.declared.failure.Kind.TheVariants.{Texts, Rows, Nodes, Certificate, Work, Open}
 use Rattle.tc_decide.specs.declared.limits.TheConstants.{MOST_ROWS}
 use Rattle.tc_decide.proofs.Passing.{over_schema, over_sheet, over_triple}
+use Rattle.tc_decide.proofs.SpotLimits.{sheet_kept_too}
 use Rattle.tc_model.specs.Grammars.{Grammar}
 use Rattle.tc_model.specs.Sheets.{Sheet}
 use Rattle.tc_model.specs.States.{Side}
@@ -83,6 +84,9 @@ module _ (i : Grammar) (s : Sheet) (p : Spot) where
   reaches (Passes (Texts kind) number) x n h = reaches_sorted (sorted x.0) n h
   reaches (Passes (Rows count) number) x n h = reaches_all x.0.0 n
   reaches (Passes Nodes number) x n h = absurd x.1
+  reaches (Passes Certificate number) x n h = absurd x.1
+  reaches (Passes Work number) x n h = absurd x.1
+  reaches (Passes Open number) x n h = absurd x.1
   reaches (Refused which reason at) x n h = absurd x
   reaches NoMemory x n h = record { sheet = λ l. absurd (omega (arith, h, l)); calls = λ l. absurd (omega (arith, h, l)); all = λ l. absurd (omega (arith, h, l)) }
 
@@ -94,6 +98,13 @@ one_of p q (suc k, l, e) = absurd (omega (arith, l))
 
 last_of : (ps : List Spot) (p : Spot) → Contains (ps ++ p ∷ []) p
 last_of ps p = Contains-append_right ps (p ∷ []) p (0, omega arith, refl)
+
+pub joined : (P : Spot → Type 0) (ps qs : List Spot) → OfEach ps P → OfEach qs P → OfEach (ps ++ qs) P
+joined P ps qs first second q c = by (Contains-append_cases ps qs q c)
+  where
+    by : Contains ps q ⊎ Contains qs q → P q
+    by (inl x) = first q x
+    by (inr x) = second q x
 
 extend : (P : Spot → Type 0) (ps : List Spot) (p : Spot) → OfEach ps P → P p → OfEach (ps ++ p ∷ []) P
 extend P ps p each this q c = by (Contains-append_cases ps (p ∷ []) q c)
@@ -124,17 +135,17 @@ module _ (i : Grammar) (s : Sheet) (ps : List Spot) where
   grow p (by_rows q earlier later each e kept x) r =
       by_rows q earlier (later ++ p ∷ []) (extend (IsWithinSpotLimits i s) ps p each (r.all (omega arith))) (ap (λ z. z ++ p ∷ []) e ∙ append_assoc earlier (q ∷ later) (p ∷ [])) kept x
 
-  -- where it is tried first, whatever they keep
-  pub grow_first : (f : Failure) (qs : List Spot) → stage_of f ≡ 0 → StopsSpots i s ps f → StopsSpots i s (ps ++ qs) f
-  grow_first (Passes kind number) qs zero_is x = by x zero_is
+  -- where it is tried first, or is calls, whatever spots of the stylesheet come later
+  pub grow_early : (f : Failure) (qs : List Spot) → stage_of f ≤ 1 → OfEach ps (Contains (spots_of s)) → OfEach qs (Contains (spots_of s)) → StopsSpots i s ps f → StopsSpots i s (ps ++ qs) f
+  grow_early (Passes kind number) qs early ours theirs x = by x early
     where
-      by : {kind : Kind} {number : ℕ} → PassSpots i s ps kind number → stage kind ≡ 0 → PassSpots i s (ps ++ qs) kind number
+      by : {kind : Kind} {number : ℕ} → PassSpots i s ps kind number → stage kind ≤ 1 → PassSpots i s (ps ++ qs) kind number
       by (by_text q e c y) h = by_text q e (Contains-append_left ps qs q c) y
-      by (by_calls q each c y) h = absurd (omega (arith, h))
+      by (by_calls q each c y) h = by_calls q (joined (KeepsSheetLimits i s) ps qs each (λ r d. sheet_kept_too i s q r (ours q c) (theirs r d) (each q c))) (Contains-append_left ps qs q c) y
       by (by_entries q each c y) h = absurd (omega (arith, h))
       by (by_rows q earlier later each e kept y) h = absurd (omega (arith, h))
-  grow_first (Refused which reason at) qs zero_is x = absurd x
-  grow_first NoMemory qs zero_is x = tt
+  grow_early (Refused which reason at) qs early ours theirs x = absurd x
+  grow_early NoMemory qs early ours theirs x = tt
 
   module _ (p : Spot) where
     pub grow_kept : (f : Failure) → StopsSpots i s ps f → IsWithinSpotLimits i s p → StopsSpots i s (ps ++ p ∷ []) f
@@ -158,6 +169,9 @@ module _ (i : Grammar) (s : Sheet) (ps : List Spot) where
     grow_better (Passes kind number) (Passes (Texts limit) n) x y h = better_text x y.0 (sorted i s p y.0) h
     grow_better (Passes kind number) (Passes (Rows count) n) x y h = absurd (no_later x (omega (arith, h)))
     grow_better (Passes kind number) (Passes Nodes n) x y h = absurd y.1
+    grow_better (Passes kind number) (Passes Certificate n) x y h = absurd y.1
+    grow_better (Passes kind number) (Passes Work n) x y h = absurd y.1
+    grow_better (Passes kind number) (Passes Open n) x y h = absurd y.1
     grow_better (Passes kind number) (Refused which reason at) x y h = absurd y
     grow_better (Passes kind number) NoMemory x y h = tt
     grow_better (Refused which reason at) here x y h = absurd x
@@ -180,6 +194,9 @@ module _ (i : Grammar) (s : Sheet) (ps : List Spot) where
         subst (PassSpots i s (ps ++ p ∷ []) (Rows count)) (sym y.0.2)
         (by_rows p ps [] (extend (IsWithinSpotLimits i s) ps p (λ q c. (kept q c).0) y.0.0) refl kept y.0.1)
     first_stop (Passes Nodes n) kept y = absurd y.1
+    first_stop (Passes Certificate n) kept y = absurd y.1
+    first_stop (Passes Work n) kept y = absurd y.1
+    first_stop (Passes Open n) kept y = absurd y.1
     first_stop (Refused which reason at) kept y = absurd y
     first_stop NoMemory kept y = tt
 

@@ -1,5 +1,5 @@
 -- The documents that instantiate a spot are those that the stylesheet in which it is marked makes into what isn't plain.
-use Rattle.std.proofs.Common.{refl, ◌⊎◌, inl, inr, Result, Ok, Err, IfOk, IfErr}
+use Rattle.std.proofs.Common.{◌≡◌, refl, sym, subst, inl, inr, Result, Ok, Err, IfOk, IfErr}
 use Rattle.tc_close.specs.Decisions.{IsDecided, IsCloseCause}
 use Rattle.tc_close.specs.declared.decision.CloseFault.{CloseFault}
 use Rattle.tc_close.specs.declared.decision.CloseFault.TheVariants as close
@@ -15,7 +15,7 @@ use Rattle.tc_decide.specs.DeadSpotsSeen.{IsTelling, IsToldByRows, IsToldOf, Sto
 use Rattle.tc_decide.specs.TextsSeen.{of_close}
 use Rattle.tc_decide.specs.declared.failure.Failure.{Failure}
 use Rattle.tc_decide.specs.declared.failure.Failure.TheVariants.{Refused, Passes, NoMemory}
-use Rattle.tc_decide.specs.declared.failure.Kind.TheVariants.{Texts, Rows, Nodes}
+use Rattle.tc_decide.specs.declared.failure.Kind.TheVariants.{Texts, Rows, Nodes, Certificate, Work, Open}
 use Rattle.tc_decide.specs.declared.limits.TheConstants.{MOST_ROWS}
 use Rattle.tc_decide.specs.declared.spots.Told.{Told}
 use Rattle.tc_decide.specs.declared.spots.Told.TheVariants.{Dead, Used, UsedTooLarge}
@@ -25,6 +25,7 @@ use Rattle.tc_model.specs.Safety.{IsSafe}
 use Rattle.tc_model.specs.Sheets.{Sheet}
 use Rattle.tc_model.specs.Trees.{Trees, none}
 use Rattle.tc_model.specs.Validity.{IsValidOutput}
+use Rattle.tc_model.specs.declared.tree.Node.{Node}
 use Rattle.tc_model.specs.Views as see
 use Rattle.tc_model.proofs.Total.{one_result}
 use Rattle.tc_rows.specs.Triples as t
@@ -67,6 +68,9 @@ pub stopped_by : (i : Grammar) (s : Sheet) (p : Spot) (e : Failure) → IsToldBy
 stopped_by i s p (Passes (Texts kind) number) x = absurd x
 stopped_by i s p (Passes (Rows count) number) x = (x, tt)
 stopped_by i s p (Passes Nodes number) x = absurd x
+stopped_by i s p (Passes Certificate number) x = absurd x
+stopped_by i s p (Passes Work number) x = absurd x
+stopped_by i s p (Passes Open number) x = absurd x
 stopped_by i s p (Refused which reason at) x = absurd x
 stopped_by i s p NoMemory x = tt
 
@@ -79,6 +83,10 @@ pub all_stopped : (Is : Grammar → Type 0) (s : Sheet) (p : Spot) (r : Result T
     → IfErr r (λ e. (i : Grammar) → Is i → StopsSpot i s p e)
 all_stopped Is s p (Ok told) h = tt
 all_stopped Is s p (Err e) h = λ i is. stopped_by i s p e (h i is)
+
+-- what rows tell is so of a document that is the same
+pub rows_copied : (i o : Grammar) (s : Sheet) (document made : Node) → ((rest : Trees) → see.before made rest ≡ see.before document rest) → IsToldByRows i o s (Ok (Used document)) → IsToldByRows i o s (Ok (Used made))
+rows_copied i o s document made same h = (h.0, subst (IsLeastCounter i o s) (sym (same none)) h.1)
 
 -- what is decided of a machine
 

@@ -16,7 +16,7 @@ use Rattle.tc_decide.specs.Texts.{IsSpelled, IsRefused}
 use Rattle.tc_decide.specs.declared.failure.Failure.{Failure}
 use Rattle.tc_decide.specs.declared.failure.Failure.TheVariants.{Refused, Passes, NoMemory}
 use Rattle.tc_decide.specs.declared.failure.Kind.{Kind}
-use Rattle.tc_decide.specs.declared.failure.Kind.TheVariants.{Texts, Rows, Nodes}
+use Rattle.tc_decide.specs.declared.failure.Kind.TheVariants.{Texts, Rows, Nodes, Certificate, Work, Open}
 use Rattle.tc_decide.specs.declared.failure.Which.{Which}
 use Rattle.tc_decide.specs.declared.failure.Which.TheVariants as which
 use Rattle.tc_decide.specs.declared.limits.TheConstants.{MOST_ROWS, MOST_SHOWN_NODES}
@@ -46,6 +46,7 @@ abbrev pub IsFirstRefusedOfTwo : SchemaText → List ℕ → Which → Reason �
 IsFirstRefusedOfTwo input sheet which.Input reason at = IsRefused input reason at
 IsFirstRefusedOfTwo input sheet which.Output reason at = ⊥
 IsFirstRefusedOfTwo input sheet which.Sheet reason at = IsSpelled input × IsRefusedSheet sheet reason at
+IsFirstRefusedOfTwo input sheet which.Document reason at = ⊥
 
 -- the text that is told to be refused is so, and where none is told to be, both are accepted
 abbrev pub TellsRefusalOfTwo : {V : Type 0} → SchemaText → List ℕ → Result V Failure → Type 0
@@ -77,9 +78,15 @@ OnDead Dead P = P
 OnDead _ P = Unit {0}
 
 -- where a document is shown, this holds of it
+abbrev pub IfShown : Told → (Trees → Type 0) → Type 0
+IfShown (Used document) P = P (before document none)
+IfShown _ P = Unit {0}
+
+-- and of some document where all are told to be too large
 abbrev pub IfUsed : Told → (Trees → Type 0) → Type 0
 IfUsed (Used document) P = P (before document none)
-IfUsed _ P = Unit {0}
+IfUsed UsedTooLarge P = (document : Trees) × P document
+IfUsed Dead P = Unit {0}
 
 abbrev pub IsToldDead : Told → Type 0
 IsToldDead Dead = Unit {0}
@@ -100,6 +107,9 @@ stage (Texts Entries) = 2
 stage (Texts kind) = 0
 stage (Rows count) = 3
 stage Nodes = 4
+stage Certificate = 4
+stage Work = 4
+stage Open = 4
 
 module _ (i : Grammar) (s : Sheet) (p : Spot) where
   -- a valid document that instantiates the spot
@@ -127,7 +137,7 @@ module _ (i : Grammar) (s : Sheet) (p : Spot) where
   pub record TellsSpot (told : Told) : Type 0 where
     pub dead : IsToldDead told ↔ IsDead i s p
     pub used : IsToldUsed told ↔ HasSmallUse
-    pub least : IfUsed told IsLeastUse
+    pub least : IfShown told IsLeastUse
     pub large : IsToldTooLarge told ↔ HasLargeUses
 
   -- none of the limits is passed that are tried before calls: of the schema, of the plain one, and of the stylesheet in which the spot is marked

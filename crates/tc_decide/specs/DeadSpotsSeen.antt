@@ -13,10 +13,9 @@ use Rattle.tc_decide.specs.Texts.{Spells, IsSchemaOf}
 use Rattle.tc_decide.specs.declared.failure.Failure.{Failure}
 use Rattle.tc_decide.specs.declared.failure.Failure.TheVariants.{Refused, Passes, NoMemory}
 use Rattle.tc_decide.specs.declared.failure.Kind.{Kind}
-use Rattle.tc_decide.specs.declared.failure.Kind.TheVariants.{Texts, Rows, Nodes}
+use Rattle.tc_decide.specs.declared.failure.Kind.TheVariants.{Texts, Rows, Nodes, Certificate, Work, Open}
 use Rattle.tc_decide.specs.declared.limits.TheConstants.{MOST_ROWS}
 use Rattle.tc_decide.specs.declared.schemas.SchemaText.{SchemaText}
-use Rattle.tc_decide.specs.declared.spots.SpotTold.{SpotTold}
 use Rattle.tc_decide.specs.declared.spots.Marking.{Marking}
 use Rattle.tc_decide.specs.declared.spots.Told.{Told}
 use Rattle.tc_decide.specs.declared.spots.Told.TheVariants.{Dead, Used, UsedTooLarge}
@@ -28,11 +27,14 @@ use Rattle.tc_model.specs.Views as see
 use Rattle.tc_model.specs.WellFormed.{IsSheet}
 use Rattle.tc_read.specs.Sheets.{IsSheetOf}
 
--- not the limit on nodes, which no spot passes
+-- not the limit on nodes, which no spot passes, nor one of what is made then
 abbrev pub IsBeforeNodes : Kind → Type 0
 IsBeforeNodes (Texts kind) = Unit {0}
 IsBeforeNodes (Rows count) = Unit {0}
 IsBeforeNodes Nodes = ⊥
+IsBeforeNodes Certificate = ⊥
+IsBeforeNodes Work = ⊥
+IsBeforeNodes Open = ⊥
 
 abbrev pub stage_of : Failure → ℕ
 stage_of (Passes kind number) = stage kind

@@ -6,7 +6,7 @@ use Rattle.tc_decide.specs.Texts.{IsSpelled, IsRefused}
 use Rattle.tc_decide.specs.declared.failure.Failure.{Failure}
 use Rattle.tc_decide.specs.declared.failure.Failure.TheVariants.{Refused, Passes, NoMemory}
 use Rattle.tc_decide.specs.declared.failure.Kind.{Kind}
-use Rattle.tc_decide.specs.declared.failure.Kind.TheVariants.{Texts, Rows, Nodes}
+use Rattle.tc_decide.specs.declared.failure.Kind.TheVariants.{Texts, Rows, Nodes, Certificate, Work, Open}
 use Rattle.tc_decide.specs.declared.failure.Which.{Which}
 use Rattle.tc_decide.specs.declared.failure.Which.TheVariants as which
 use Rattle.tc_decide.specs.declared.schemas.SchemaText.{SchemaText}
@@ -59,6 +59,7 @@ abbrev pub IsFirstRefused : SchemaText → SchemaText → List ℕ → Which →
 IsFirstRefused input output sheet which.Input reason at = IsRefused input reason at
 IsFirstRefused input output sheet which.Output reason at = IsSpelled input × IsRefused output reason at
 IsFirstRefused input output sheet which.Sheet reason at = IsSpelled input × IsSpelled output × IsRefusedSheet sheet reason at
+IsFirstRefused input output sheet which.Document reason at = ⊥
 
 -- the text that is told to be refused is so, and where none is told to be, all are accepted
 abbrev pub TellsRefusal : {V : Type 0} → SchemaText → SchemaText → List ℕ → Result V Failure → Type 0
@@ -83,6 +84,9 @@ module _ (i o : Grammar) (s : Sheet) where
   PassesFirst most (Texts kind) number = PassesTripleLimit i o s kind number
   PassesFirst most (Rows count) number = IsWithinTripleLimits i o s × HasManyRows i o s most (row_count count) × (number ≡ most_of most (row_count count))
   PassesFirst most Nodes number = KeepsAll most × HasLargeCounters i o s × (number ≡ MOST_SHOWN_NODES)
+  PassesFirst most Certificate number = ⊥
+  PassesFirst most Work number = ⊥
+  PassesFirst most Open number = ⊥
 
 -- the result, exactly where the run keeps to its limits
 abbrev pub IsOutputOf : Sheet → Trees → Output → Type 0

@@ -4,6 +4,15 @@ pub mod RowCounts
 pub mod Checking
 pub mod MachinesSeen
 pub mod Deciding
+pub mod Certificates
+pub mod Rejections
+pub mod Verified
 pub mod TextsSeen
+pub mod VerifiedSeen
+pub mod Nothing
+pub mod Running
+pub mod RunningSeen
+pub mod Comparing
+pub mod ComparingSeen
 pub mod DeadSpots
 pub mod DeadSpotsSeen

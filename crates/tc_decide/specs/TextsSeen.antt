@@ -4,20 +4,25 @@ use Rattle.tc_base.specs.declared.Limit.{Limit}
 use Rattle.tc_beh.specs.declared.machine.Machine.{Machine}
 use Rattle.tc_close.specs.declared.decision.CloseFault.{CloseFault}
 use Rattle.tc_close.specs.declared.decision.CloseFault.TheVariants as close
+use Rattle.tc_cert.specs.declared.text.CertWriteFault.{CertWriteFault}
+use Rattle.tc_cert.specs.declared.text.CertWriteFault.TheVariants as write
+use Rattle.tc_decide.specs.Certificates.{HasShortCertificate, IsTextOfLeast, PassesInProof}
 use Rattle.tc_decide.specs.Checking.{PassesTripleLimit, AreRowCounts, IsLeastCounter}
 use Rattle.tc_decide.specs.Deciding.{IsFirstRefused, TellsRefusal, KeepsAll, PassesFirst, IsOutputOf}
 use Rattle.tc_decide.specs.MachinesSeen.{IsMachineFor}
 use Rattle.tc_decide.specs.Texts.{Spells}
 use Rattle.tc_decide.specs.declared.failure.Failure.{Failure}
 use Rattle.tc_decide.specs.declared.failure.Failure.TheVariants.{Refused, Passes, NoMemory}
-use Rattle.tc_decide.specs.declared.failure.Kind.TheVariants.{Texts, Rows}
+use Rattle.tc_decide.specs.declared.failure.Kind.TheVariants.{Texts, Rows, Certificate}
 use Rattle.tc_decide.specs.declared.failure.RowCount.TheVariants.{Trees, Hedges, Outputs}
 use Rattle.tc_decide.specs.declared.failure.Which.{Which}
 use Rattle.tc_decide.specs.declared.failure.Which.TheVariants as which
-use Rattle.tc_decide.specs.declared.limits.TheConstants.{MOST_OUTPUTS}
+use Rattle.tc_decide.specs.declared.limits.TheConstants.{MOST_OUTPUTS, LONGEST_CERTIFICATE}
 use Rattle.tc_decide.specs.declared.machine.LimitFault.{LimitFault}
 use Rattle.tc_decide.specs.declared.machine.LimitFault.TheVariants as limit
 use Rattle.tc_decide.specs.declared.schemas.SchemaText.{SchemaText}
+use Rattle.tc_decide.specs.declared.verdict.Proof.{Proof}
+use Rattle.tc_decide.specs.declared.verdict.Proof.TheVariants as proof
 use Rattle.tc_decide.specs.declared.verdict.Verdict.{Verdict}
 use Rattle.tc_decide.specs.declared.verdict.Verdict.TheVariants.{Safe, Unsafe}
 use Rattle.tc_model.specs.Grammars.{Grammar}
@@ -45,6 +50,10 @@ of_close most close.TooManyTrees = Passes (Rows Trees) most
 of_close most close.TooManyHedges = Passes (Rows Hedges) most
 of_close most close.TooManyOutputs = Passes (Rows Outputs) MOST_OUTPUTS
 of_close most close.NoMemory = NoMemory
+
+abbrev pub of_write : CertWriteFault → Failure
+of_write write.TooLong = Passes Certificate LONGEST_CERTIFICATE
+of_write write.NoMemory = NoMemory
 
 -- this text is refused, as this relation says, or memory was
 abbrev pub IsRefusalOf : Which → (Reason → ℕ → Type 0) → Failure → Type 0
@@ -88,7 +97,15 @@ module _ (most : ℕ) (i o : Grammar) (s : Sheet) where
   IsFound (Err (Passes kind number)) = PassesFirst i o s most kind number
   IsFound (Err NoMemory) = Unit {0}
 
--- what their texts decide
-pub record IsFoundOfTexts (most : ℕ) (input output : SchemaText) (sheet : List ℕ) (result : Result Verdict Failure) : Type 0 where
+  -- what is proved of them
+  abbrev pub IsProved : Result Proof Failure → Type 0
+  IsProved (Ok (proof.Certified bytes)) = KeepsAll i o s most × IsSafe i o s × HasShortCertificate i o s × IsTextOfLeast i o s bytes.items
+  IsProved (Ok (proof.Unsafe document output)) = KeepsAll i o s most × IsLeastCounter i o s (before document none) × IsOutputOf s (before document none) output
+  IsProved (Err (Refused which reason at)) = ⊥
+  IsProved (Err (Passes kind number)) = PassesInProof i o s most kind number
+  IsProved (Err NoMemory) = Unit {0}
+
+-- what is found of the schemas and the stylesheet that texts spell, and which text is refused
+pub record IsFoundOfTexts {V : Type 0} (Found : Grammar → Grammar → Sheet → Result V Failure → Type 0) (input output : SchemaText) (sheet : List ℕ) (result : Result V Failure) : Type 0 where
   pub refusal : TellsRefusal input output sheet result
-  pub found : (i o : Grammar) (s : Sheet) → Spells input i → Spells output o → IsSheetOf sheet s → IsFound most i o s result
+  pub found : (i o : Grammar) (s : Sheet) → Spells input i → Spells output o → IsSheetOf sheet s → Found i o s result

@@ -86,7 +86,7 @@ fn check_texts<'b>(
     requires input { IsShort input }
     requires output { IsShort output }
     requires sheet { length sheet.now ≤ longest_text }
-    ensures { IsFoundOfTexts most input.entry output.entry sheet.now result }
+    ensures { IsFoundOfTexts (IsFound most) input.entry output.entry sheet.now result }
 {
     let machine = machine_of_texts(arena, alloc, input, output, sheet)?;
     decide(arena, alloc, most, &machine)
@@ -131,7 +131,7 @@ pub(crate) fn rows_failure(most: u32, fault: CloseFault) -> Failure
 }
 
 /// The result of a document, unless its run passes a limit.
-pub fn output_of<'b>(
+pub(crate) fn output_of<'b>(
     arena: &'b Bump,
     machine: &Machine<'b>,
     document: &Node<'b>,

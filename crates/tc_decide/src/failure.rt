@@ -2,19 +2,26 @@
 ghost use Rattle.std.specs.Prelude.{◌≡◌};
 ghost use Rattle.tc_decide.specs.TextsSeen.{of_text};
 
+use crate::limits::{LONGEST_CERTIFICATE, MOST_ROWS};
 use crate::machine::LimitFault;
+use tc_base::limits::{MOST_OPEN, MOST_WORK};
 use tc_base::{Limit, NoMemory, Place};
+use tc_cert::CertWriteFault;
+use tc_incl::InclFault;
 use tc_read::{Reason, TextFault};
+use tc_run::RunFault;
 
 /// Which of the texts.
 #[derive(Clone, Copy, Debug, PartialEq, Eq)]
 pub enum Which {
-    /// The input schema.
+    /// The input schema, or the first of two that are compared.
     Input,
-    /// The output schema.
+    /// The output schema, or the second of two that are compared.
     Output,
     /// The stylesheet.
     Sheet,
+    /// The document.
+    Document,
 }
 
 /// What is counted of rows.
@@ -37,6 +44,12 @@ pub enum Kind {
     Rows(RowCount),
     /// The nodes of the least document that could be shown.
     Nodes,
+    /// The bytes of a certificate's text.
+    Certificate,
+    /// The work of a run.
+    Work,
+    /// The bodies and instructions of a run that stand within one another.
+    Open,
 }
 
 /// Why nothing is decided.
@@ -71,6 +84,50 @@ impl From<LimitFault> for Failure {
         match fault {
             LimitFault::Passes(kind, number) => Failure::Passes(Kind::Texts(kind), number),
             LimitFault::NoMemory => Failure::NoMemory,
+        }
+    }
+}
+
+impl From<CertWriteFault> for Failure {
+    ghost use Rattle.std.specs.Prelude.{◌≡◌};
+    ghost use Rattle.tc_decide.specs.TextsSeen.{of_write};
+
+    ghost from_gives = { λ fault e. e ≡ of_write fault };
+
+    fn from(fault: CertWriteFault) -> Failure {
+        match fault {
+            CertWriteFault::TooLong => Failure::Passes(Kind::Certificate, LONGEST_CERTIFICATE),
+            CertWriteFault::NoMemory => Failure::NoMemory,
+        }
+    }
+}
+
+impl From<RunFault> for Failure {
+    ghost use Rattle.std.specs.Prelude.{◌≡◌};
+    ghost use Rattle.tc_decide.specs.RunningSeen.{of_run};
+
+    ghost from_gives = { λ fault e. e ≡ of_run fault };
+
+    fn from(fault: RunFault) -> Failure {
+        match fault {
+            RunFault::TooMuchWork => Failure::Passes(Kind::Work, MOST_WORK),
+            RunFault::TooOpen => Failure::Passes(Kind::Open, MOST_OPEN),
+            RunFault::NoMemory => Failure::NoMemory,
+        }
+    }
+}
+
+impl From<InclFault> for Failure {
+    ghost use Rattle.std.specs.Prelude.{◌≡◌};
+    ghost use Rattle.tc_decide.specs.ComparingSeen.{of_covers};
+
+    ghost from_gives = { λ fault e. e ≡ of_covers fault };
+
+    fn from(fault: InclFault) -> Failure {
+        match fault {
+            InclFault::TooManyTrees => Failure::Passes(Kind::Rows(RowCount::Trees), MOST_ROWS),
+            InclFault::TooManyHedges => Failure::Passes(Kind::Rows(RowCount::Hedges), MOST_ROWS),
+            InclFault::NoMemory => Failure::NoMemory,
         }
     }
 }

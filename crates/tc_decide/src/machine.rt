@@ -180,7 +180,7 @@ fn machine_over<'b>(
 }
 
 /// The rules of a stylesheet, unless that passes a limit.
-fn rules_of<'b>(
+pub(crate) fn rules_of<'b>(
     alloc: Global,
     sheet: &Sheet<'b>,
     alphabet: &Alphabet,

@@ -8,7 +8,7 @@ ghost use Rattle.tc_dead.specs.Spots as s;
 ghost use Rattle.tc_dead.specs.Spots.{spots_of};
 ghost use Rattle.tc_dead.specs.Views.{seen};
 ghost use Rattle.tc_decide.specs.Checking.{IsWithinTripleLimits};
-ghost use Rattle.tc_decide.specs.DeadSpots.{IfUsed, IsWithinSpotLimits, OnDead, TellsRefusalOfTwo, TellsSpots, Uses};
+ghost use Rattle.tc_decide.specs.DeadSpots.{IfUsed, IsWithinSpotLimits, OfEach, OnDead, TellsRefusalOfTwo, TellsSpots, Uses};
 ghost use Rattle.tc_decide.specs.DeadSpotsSeen.{IsFoundOfSpots, IsFoundOfTwo, IsMarking, IsMarkingOf, IsTelling, IsToldByRows, IsToldOf, StopsSpot, StopsSpots, StopsTwo, stage_of};
 ghost use Rattle.tc_decide.specs.MachinesSeen.{IsMachineFor, IsReadOf};
 ghost use Rattle.tc_decide.specs.Texts.{IsShort, Spells};
@@ -19,6 +19,7 @@ ghost use Rattle.tc_read.specs.Sheets.{IsSheetOf};
 ghost use Rattle.tc_rows.specs.Triples as t;
 
 use crate::checking::rows_failure;
+use crate::copies::copied;
 use crate::failure::{Failure, Kind, Which};
 use crate::limits::MOST_ROWS;
 use crate::machine::machine_of;
@@ -82,7 +83,7 @@ pub fn dead<'b>(
     ensures unused { (i : Grammar) (s : model.Sheet) → Spells input.entry i → IsSheetOf sheet.now s
         → IfOk result (λ told. All (λ t. OnDead t.told (IsDead i s (seen t.spot))) told.now) }
 
-    // Used: the document that is shown is valid for the schema and instantiates it.
+    // Used: the document that is shown is valid for the schema and instantiates it; and some such document does where all are told to be too large.
     ensures instantiated { (i : Grammar) (s : model.Sheet) → Spells input.entry i
         → IsSheetOf sheet.now s
         → IfOk result (λ told. All (λ t. IfUsed t.told (Uses i s (seen t.spot))) told.now) }
@@ -178,62 +179,66 @@ fn told_of_all<'b>(
                 };
             }
             Err(failure) => {
-                return Err(first_of(arena, alloc, marking, &spots[index + 1..], failure));
+                return Err(first_of(alloc, marking, &spots[index + 1..], failure));
             }
         }
     }
     Ok(into_bump_slice(found))
 }
 
-/// What is told where a spot passes a limit: that, unless one of the spots after it passes one that is tried before.
-fn first_of<'b>(
-    arena: &'b Bump,
-    alloc: Global,
-    marking: &Marking<'b>,
-    later: &[Spot],
-    failure: Failure,
-) -> Failure
+/// What is told where a spot passes a limit: that, unless one of the spots after it passes one that is tried before. All
+/// spots pass the same of those that are tried before calls, so that calls are told at once.
+fn first_of(alloc: Global, marking: &Marking<'_>, later: &[Spot], failure: Failure) -> Failure
     requires marking { IsMarking marking.now }
-    requires later { All (λ p. Contains (spots_of (see.sheet marking.now.sheet)) (seen p)) later.now }
+    requires later { All
+        (λ p. Contains (spots_of (see.sheet marking.now.sheet)) (seen p)) later.now }
     ensures { (i : Grammar) → IsReadOf i marking.now.input → (ps : List s.Spot)
+        → OfEach ps (Contains (spots_of (see.sheet marking.now.sheet)))
         → StopsSpots i (see.sheet marking.now.sheet) ps failure
         → StopsSpots i (see.sheet marking.now.sheet) (ps ++ map seen later.now) result }
 {
     let mut found = failure;
     for spot in later {
-        if stage(found) == 0 {
+        if stage(found) <= 1 {
             return found;
         }
-        found = earlier_of(arena, alloc, marking, *spot, found);
+        found = earlier_of(alloc, marking, *spot, found);
     }
     found
 }
 
 /// What is told where one more spot is looked at, but for its rows.
-fn earlier_of<'b>(
-    arena: &'b Bump,
-    alloc: Global,
-    marking: &Marking<'b>,
-    spot: Spot,
-    found: Failure,
-) -> Failure
+fn earlier_of(alloc: Global, marking: &Marking<'_>, spot: Spot, found: Failure) -> Failure
     requires marking { IsMarking marking.now }
     requires spot { Contains (spots_of (see.sheet marking.now.sheet)) (seen spot) }
     ensures { (i : Grammar) → IsReadOf i marking.now.input → (ps : List s.Spot)
         → StopsSpots i (see.sheet marking.now.sheet) ps found
         → StopsSpots i (see.sheet marking.now.sheet) (ps ++ seen spot ∷ []) result }
 {
-    match try_machine(arena, alloc, marking, spot) {
+    match try_machine(alloc, marking, spot) {
         Ok(()) => found,
         Err(here) => first_tried(here, found),
     }
 }
 
 /// Whether a spot passes a limit that is tried before rows are.
-fn try_machine<'b>(
-    arena: &'b Bump,
+fn try_machine(alloc: Global, marking: &Marking<'_>, spot: Spot) -> Result<(), Failure>
+    requires marking { IsMarking marking.now }
+    requires spot { Contains (spots_of (see.sheet marking.now.sheet)) (seen spot) }
+    ensures within { OnOk result ((i : Grammar) → IsReadOf i marking.now.input
+        → IsWithinSpotLimits i (see.sheet marking.now.sheet) (seen spot)) }
+    ensures err { IfErr result (λ e. (i : Grammar) → IsReadOf i marking.now.input
+        → StopsSpot i (see.sheet marking.now.sheet) (seen spot) e) }
+{
+    let scratch = Bump::new(alloc);
+    try_within(&scratch, alloc, marking, spot)
+}
+
+/// The same, in an arena of its own.
+fn try_within<'m: 's, 's>(
+    scratch: &'s Bump,
     alloc: Global,
-    marking: &Marking<'b>,
+    marking: &Marking<'m>,
     spot: Spot,
 ) -> Result<(), Failure>
     requires marking { IsMarking marking.now }
@@ -243,7 +248,7 @@ fn try_machine<'b>(
     ensures err { IfErr result (λ e. (i : Grammar) → IsReadOf i marking.now.input
         → StopsSpot i (see.sheet marking.now.sheet) (seen spot) e) }
 {
-    let machine = machine_of_spot(arena, alloc, marking, spot)?;
+    let machine = machine_of_spot(scratch, alloc, marking, spot)?;
     drop(machine);
     Ok(())
 }
@@ -268,16 +273,19 @@ fn stage(failure: Failure) -> u32
         Failure::Passes(Kind::Texts(Limit::Entries), _) => 2,
         Failure::Passes(Kind::Texts(_), _) => 0,
         Failure::Passes(Kind::Rows(_), _) => 3,
-        Failure::Passes(Kind::Nodes, _) => 4,
+        Failure::Passes(Kind::Nodes, _)
+        | Failure::Passes(Kind::Certificate, _)
+        | Failure::Passes(Kind::Work, _)
+        | Failure::Passes(Kind::Open, _) => 4,
         Failure::Refused(_, _, _) | Failure::NoMemory => 0,
     }
 }
 
-/// What is told of a spot.
+/// What is told of a spot. What is worked out for it lies in an arena that is given back.
 fn told_of<'b>(
     arena: &'b Bump,
     alloc: Global,
-    marking: &Marking<'b>,
+    marking: &Marking<'_>,
     spot: Spot,
 ) -> Result<Told<'b>, Failure>
     requires marking { IsMarking marking.now }
@@ -287,17 +295,36 @@ fn told_of<'b>(
     ensures err { IfErr result (λ e. (i : Grammar) → IsReadOf i marking.now.input
         → StopsSpot i (see.sheet marking.now.sheet) (seen spot) e) }
 {
-    let machine = machine_of_spot(arena, alloc, marking, spot)?;
-    told_by_rows(arena, alloc, &machine)
+    let scratch = Bump::new(alloc);
+    told_within(arena, &scratch, alloc, marking, spot)
+}
+
+/// What is told of a spot, worked out in an arena of its own.
+fn told_within<'b, 'm: 's, 's>(
+    arena: &'b Bump,
+    scratch: &'s Bump,
+    alloc: Global,
+    marking: &Marking<'m>,
+    spot: Spot,
+) -> Result<Told<'b>, Failure>
+    requires marking { IsMarking marking.now }
+    requires spot { Contains (spots_of (see.sheet marking.now.sheet)) (seen spot) }
+    ensures ok { IfOk result (λ told. (i : Grammar) → IsReadOf i marking.now.input
+        → IsToldOf i (see.sheet marking.now.sheet) (seen spot) told) }
+    ensures err { IfErr result (λ e. (i : Grammar) → IsReadOf i marking.now.input
+        → StopsSpot i (see.sheet marking.now.sheet) (seen spot) e) }
+{
+    let machine = machine_of_spot(scratch, alloc, marking, spot)?;
+    told_by_rows(arena, scratch, alloc, &machine)
 }
 
 /// The machine of the schema, the plain one, and the stylesheet in which a spot is marked.
-fn machine_of_spot<'b>(
-    arena: &'b Bump,
+fn machine_of_spot<'m: 's, 's>(
+    scratch: &'s Bump,
     alloc: Global,
-    marking: &Marking<'b>,
+    marking: &Marking<'m>,
     spot: Spot,
-) -> Result<Machine<'b>, Failure>
+) -> Result<Machine<'s>, Failure>
     requires marking { IsMarking marking.now }
     requires spot { Contains (spots_of (see.sheet marking.now.sheet)) (seen spot) }
     ensures tells { OnOk result (IsTelling (see.sheet marking.now.sheet) (seen spot)) }
@@ -306,24 +333,25 @@ fn machine_of_spot<'b>(
     ensures err { IfErr result (λ e. (i : Grammar) → IsReadOf i marking.now.input
         → StopsSpot i (see.sheet marking.now.sheet) (seen spot) e) }
 {
-    let sheet = marked(arena, &marking.sheet, spot)?;
+    let sheet = marked(scratch, &marking.sheet, spot)?;
     Ok(machine_of(alloc, &marking.input, &marking.plain, &sheet)?)
 }
 
-/// What the rows of a machine tell.
-fn told_by_rows<'b>(
+/// What the rows of a machine tell, which are worked out in an arena of their own.
+fn told_by_rows<'b, 's>(
     arena: &'b Bump,
+    scratch: &'s Bump,
     alloc: Global,
-    machine: &Machine<'b>,
+    machine: &Machine<'s>,
 ) -> Result<Told<'b>, Failure>
     requires machine { IsMachine machine.now }
     ensures { (x : t.Triple) → IsMachineOf x machine.now
         → IsWithinTripleLimits x.input x.output (t.sheet x)
         → IsToldByRows x.input x.output (t.sheet x) result }
 {
-    match tc_close::decide(arena, alloc, machine, MOST_ROWS) {
+    match tc_close::decide(scratch, alloc, machine, MOST_ROWS) {
         Ok(Decision::Safe(_)) => Ok(Told::Dead),
-        Ok(Decision::Unsafe(document)) => Ok(Told::Used(document)),
+        Ok(Decision::Unsafe(document)) => Ok(Told::Used(copied(arena, &document)?)),
         Ok(Decision::TooManyNodes) => Ok(Told::UsedTooLarge),
         Err(fault) => Err(rows_failure(MOST_ROWS, fault)),
     }

@@ -51,7 +51,7 @@ pub(crate) fn sheet_of<'b>(arena: &'b Bump, text: &[u8]) -> Result<Sheet<'b>, Fa
 /// # Errors
 ///
 /// A text is refused, a limit is passed that is tried before rows are, or memory is refused.
-pub fn machine_of_texts<'b>(
+pub(crate) fn machine_of_texts<'b>(
     arena: &'b Bump,
     alloc: Global,
     input: SchemaText<'_>,

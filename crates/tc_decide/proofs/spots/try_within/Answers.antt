@@ -1,4 +1,4 @@
-use Rattle.tc_decide.proofs.spots.try_machine.Goals as goal
+use Rattle.tc_decide.proofs.spots.try_within.Goals as goal
 use Rattle.tc_read.proofs.Exits.{err_is}
 
 pub returns-in_err-machine-clause-err : goal.returns-in_err-machine-clause-err

@@ -1,4 +1,3 @@
-use Rattle.tc_dead.specs.Marked.{marked_at, plain_schema}
 use Rattle.tc_dead.specs.Views.{seen}
 use Rattle.tc_decide.specs.Checking.{IsWithinTripleLimits}
 use Rattle.tc_decide.specs.DeadSpotsSeen.{IsToldByRows}
@@ -6,8 +5,7 @@ use Rattle.tc_decide.specs.MachinesSeen.{IsReadOf}
 use Rattle.tc_decide.proofs.MachineLimits.{some_grammar}
 use Rattle.tc_decide.proofs.Triples.{of_triple, to_triple}
 use Rattle.tc_decide.proofs.Using.{all_told, all_stopped}
-use Rattle.tc_decide.proofs.spots.told_of.Goals as goal
-use Rattle.tc_model.specs.Grammars.{Grammar}
+use Rattle.tc_decide.proofs.spots.told_within.Goals as goal
 use Rattle.tc_model.specs.Views as see
 use Rattle.tc_read.proofs.Exits.{err_is}
 

@@ -1,0 +1,17 @@
+use Rattle.tc_decide.proofs.Compared.{says_included, shows_difference, inclusion_decides, inclusion_counts}
+use Rattle.tc_decide.proofs.comparing.include.Goals as goal
+
+pub returns-clause-included : goal.returns-clause-included
+returns-clause-included c = λ x y p q. says_included x y c.include_texts.result (c.include_texts.ensures.found x y p q)
+
+pub returns-clause-shown : goal.returns-clause-shown
+returns-clause-shown c = λ x y p q. shows_difference x y c.include_texts.result (c.include_texts.ensures.found x y p q)
+
+pub returns-clause-inclusion : goal.returns-clause-inclusion
+returns-clause-inclusion c = λ x y p q. inclusion_decides x y c.include_texts.result (c.include_texts.ensures.found x y p q)
+
+pub returns-clause-counted : goal.returns-clause-counted
+returns-clause-counted c = λ x y p q. inclusion_counts x y c.include_texts.result (c.include_texts.ensures.found x y p q)
+
+pub returns-clause-refused : goal.returns-clause-refused
+returns-clause-refused c = c.include_texts.ensures.refusal
