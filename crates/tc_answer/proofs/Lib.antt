@@ -10,3 +10,4 @@ pub mod Options
 pub mod NoCommand
 pub mod OperandWords
 pub mod Marked
+pub mod SpotLines

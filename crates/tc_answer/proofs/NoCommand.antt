@@ -1,6 +1,6 @@
 -- Words that are no command, by what doesn't stand behind the first one.
 use Rattle.std.proofs.Common.{◌≡◌, ◌∷◌, [], ◌∙◌, sym, ap, subst, refl, ℕ, zero, suc, List, Option, Bool, true, false, if◌then◌else◌, codes}
-use Rattle.tc_answer.specs.Words.{Command, Words, checks, proves, verifies, runs, validates, validates_in_pieces, shows, upgrades, includes, compares, Limits, IsNumeral, AreOperands, AreSchemas, IsNoCommand}
+use Rattle.tc_answer.specs.Words.{Command, Words, checks, proves, verifies, runs, validates, validates_in_pieces, shows, upgrades, asks_dead, includes, compares, Limits, IsNumeral, AreOperands, AreSchemas, IsNoCommand}
 use Rattle.tc_answer.proofs.Marked.{tails}
 use Rattle.tc_answer.proofs.OneCommand.{kind}
 
@@ -14,6 +14,7 @@ Lacks (suc (suc (suc (suc (suc zero))))) words = (numeral : List ℕ) (size : �
 Lacks (suc (suc (suc (suc (suc (suc zero)))))) words = (a : List ℕ) → words ≡ codes "upgrade" ∷ a ∷ [] → AreOperands (a ∷ []) → ⊥
 Lacks (suc (suc (suc (suc (suc (suc (suc zero))))))) words = (a b : List ℕ) → words ≡ codes "include" ∷ a ∷ b ∷ [] → AreOperands (a ∷ b ∷ []) → AreSchemas (a ∷ b ∷ []) → ⊥
 Lacks (suc (suc (suc (suc (suc (suc (suc (suc zero)))))))) words = (a b : List ℕ) → words ≡ codes "same" ∷ a ∷ b ∷ [] → AreOperands (a ∷ b ∷ []) → AreSchemas (a ∷ b ∷ []) → ⊥
+Lacks (suc (suc (suc (suc (suc (suc (suc (suc (suc zero))))))))) words = (a b : List ℕ) → words ≡ codes "dead" ∷ a ∷ b ∷ [] → AreOperands (a ∷ b ∷ []) → AreSchemas (a ∷ []) → ⊥
 Lacks _ words = ⊥
 
 lacked : {words : List (List ℕ)} {command : Command} (k : ℕ) → kind words ≡ k → Lacks k words → Words words command → ⊥
@@ -25,6 +26,7 @@ lacked {words} k e none (validates p o s) = subst (λ n. Lacks n words) (sym e �
 lacked {words} k e none (validates_in_pieces p l o s) = subst (λ n. Lacks n words) (sym e ∙ ap kind p) none
 lacked {words} k e none (shows {numeral = a} {size = n} p s) = subst (λ n. Lacks n words) (sym e ∙ ap kind p) none a n p s
 lacked {words} k e none (upgrades {certificate = a} p o) = subst (λ n. Lacks n words) (sym e ∙ ap kind p) none a p o
+lacked {words} k e none (asks_dead {input = a} {sheet = b} p o s) = subst (λ n. Lacks n words) (sym e ∙ ap kind p) none a b p o s
 lacked {words} k e none (includes {first = a} {second = b} p o s) = subst (λ n. Lacks n words) (sym e ∙ ap kind p) none a b p o s
 lacked {words} k e none (compares {first = a} {second = b} p o s) = subst (λ n. Lacks n words) (sym e ∙ ap kind p) none a b p o s
 

@@ -1,11 +1,11 @@
 -- A list of words gives one command at most.
 use Rattle.std.proofs.Common.{◌≡◌, ◌∷◌, [], ◌∙◌, sym, ap, subst, refl, arith, ℕ, List, Option, Some, None, if◌then◌else◌, codes}
 use Rattle.std.specs.Str.{bytes_eq}
-use Rattle.tc_answer.specs.Words.{Command, check, prove, verify, run, valid, valid_in_pieces, demo, upgrade, include, same, Words, checks, proves, verifies, runs, validates, validates_in_pieces, shows, upgrades, includes, compares, Limits, PieceSizes, IsNumeral, AreOperands, WordsGiveOne, value_from}
+use Rattle.tc_answer.specs.Words.{Command, check, prove, verify, run, valid, valid_in_pieces, demo, upgrade, dead, include, same, Words, checks, proves, verifies, runs, validates, validates_in_pieces, shows, upgrades, asks_dead, includes, compares, Limits, PieceSizes, IsNumeral, AreOperands, WordsGiveOne, value_from}
 
 -- which of the commands the first word names
 abbrev pub kind : List (List ℕ) → ℕ
-kind [] = 9
+kind [] = 10
 kind (word ∷ words) =
     if bytes_eq word (codes "check") then 0 else
     if bytes_eq word (codes "prove") then 1 else
@@ -14,7 +14,8 @@ kind (word ∷ words) =
     if bytes_eq word (codes "valid") then 4 else
     if bytes_eq word (codes "demo") then 5 else
     if bytes_eq word (codes "upgrade") then 6 else
-    if bytes_eq word (codes "include") then 7 else 8
+    if bytes_eq word (codes "include") then 7 else
+    if bytes_eq word (codes "dead") then 9 else 8
 
 abbrev kind_of : Command → ℕ
 kind_of (check limit input output sheet) = 0
@@ -25,6 +26,7 @@ kind_of (valid schema document) = 4
 kind_of (valid_in_pieces size schema document) = 4
 kind_of (demo size) = 5
 kind_of (upgrade certificate) = 6
+kind_of (dead input sheet) = 9
 kind_of (include first second) = 7
 kind_of (same first second) = 8
 
@@ -37,6 +39,7 @@ kind_is (validates parts operands schemas) = ap kind parts
 kind_is (validates_in_pieces parts size operands schemas) = ap kind parts
 kind_is (shows parts spelled) = ap kind parts
 kind_is (upgrades parts operands) = ap kind parts
+kind_is (asks_dead parts operands schemas) = ap kind parts
 kind_is (includes parts operands schemas) = ap kind parts
 kind_is (compares parts operands schemas) = ap kind parts
 
@@ -98,6 +101,7 @@ one_command (shows p s) (shows q t) =
     let agree = same_number _ _ (cc) s t in
     cc
 one_command (upgrades p a) (upgrades q b) = cc
+one_command (asks_dead p a x) (asks_dead q b y) = cc
 one_command (includes p a x) (includes q b y) = cc
 one_command (compares p a x) (compares q b y) = cc
 one_command p q =

@@ -1,6 +1,6 @@
 -- The words of a validation.
 use Rattle.std.proofs.Common.{◌≡◌, ◌∷◌, [], ◌∙◌, ap, subst, refl, arith, ℕ, List, Option, Some, None, codes}
-use Rattle.tc_answer.specs.Words.{Command, valid, valid_in_pieces, Words, checks, proves, verifies, runs, validates, validates_in_pieces, shows, upgrades, includes, compares, PieceSizes, AreOperands, AreSchemas, IsNoCommand}
+use Rattle.tc_answer.specs.Words.{Command, valid, valid_in_pieces, Words, checks, proves, verifies, runs, validates, validates_in_pieces, shows, upgrades, asks_dead, includes, compares, PieceSizes, AreOperands, AreSchemas, IsNoCommand}
 use Rattle.tc_answer.proofs.OneCommand.{kind}
 
 -- what stands behind `valid` where that is a command: the size of pieces, if there is one, and the operands
@@ -25,6 +25,7 @@ behind {rest} (validates_in_pieces {rest = other} {size = size} {schema = schema
     record { size = Some size; schema = schema; document = document; parts = subst (λ w. PieceSizes w (Some size) (schema ∷ document ∷ [])) same l; operands = a; schemas = x }
 behind (shows p s) = absurd (let e : 4 ≡ 5 = ap kind p in omega (arith, e))
 behind (upgrades p a) = absurd (let e : 4 ≡ 6 = ap kind p in omega (arith, e))
+behind (asks_dead p a x) = absurd (let e : 4 ≡ 9 = ap kind p in omega (arith, e))
 behind (includes p a x) = absurd (let e : 4 ≡ 7 = ap kind p in omega (arith, e))
 behind (compares p a x) = absurd (let e : 4 ≡ 8 = ap kind p in omega (arith, e))
 

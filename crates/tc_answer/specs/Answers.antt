@@ -1,7 +1,9 @@
 -- What a call can answer: the status and the lines of each answer.
-use Rattle.std.specs.Prelude.{ℕ, List, ◌++◌, codes, decimal}
+use Rattle.std.specs.Prelude.{ℕ, zero, suc, List, ◌++◌, codes, decimal}
+use Rattle.tc_decide.specs.Rejections.{Rejection}
 use Rattle.tc_decide.specs.RowCounts.{RowCount}
-use Rattle.tc_answer.specs.Lines.{Rejection, line, limit_line, limit_word, count_word, safe_line, unsafe_lines, unsafe_large_lines, included_line, not_included_lines, different_lines, rejected_line}
+use Rattle.tc_answer.specs.Lines.{line, limit_line, limit_word, count_word, safe_line, unsafe_lines, unsafe_large_lines, included_line, not_included_lines, different_lines, rejected_line}
+use Rattle.tc_answer.specs.SpotLines.{SpotUse, dead_count, spots_lines}
 use Rattle.tc_decide.specs.declared.limits.TheConstants.{MOST_SHOWN_NODES, LONGEST_CERTIFICATE, LONGEST_TAG, MOST_NAMES}
 use Rattle.tc_answer.specs.declared.status.Status.{Status}
 use Rattle.tc_answer.specs.declared.status.Status.TheVariants.{Yes, No, Usage, Refused, Limit, ReadFault}
@@ -40,6 +42,8 @@ pub data Answer : Type 0 where
   first_only : (document : Trees) → Answer
   -- for the second alone
   second_only : (document : Trees) → Answer
+  -- what is told of each rule, named body and branch of a stylesheet
+  spots : (told : List SpotUse) → Answer
   -- the text of an operand is refused at a place
   refused : (name : List ℕ) (reason : Reason) (place : ℕ) → Answer
   over_limit : (kind : kinds.Limit) (number : ℕ) → Answer
@@ -54,6 +58,11 @@ pub data Answer : Type 0 where
   work_limit : Answer
   -- too many bodies and instructions of it stand within one another
   open_limit : Answer
+
+-- yes exactly where none is dead
+abbrev pub status_by_dead : ℕ → Status
+status_by_dead zero = Yes
+status_by_dead (suc more) = No
 
 abbrev pub status_of : Answer → Status
 status_of usage = Usage
@@ -73,6 +82,7 @@ status_of (not_included document) = No
 status_of equal = Yes
 status_of (first_only document) = No
 status_of (second_only document) = No
+status_of (spots told) = status_by_dead (dead_count told)
 status_of (refused name reason place) = Refused
 status_of (over_limit kind number) = Limit
 status_of is_valid = Yes
@@ -85,7 +95,7 @@ status_of open_limit = Limit
 
 -- what an answer writes
 abbrev pub text_of : Answer → List ℕ
-text_of usage = line (codes "usage: check|prove [--limit N] IN OUT SHEET; verify IN OUT SHEET CERT; run SHEET DOC; valid SCHEMA DOC; demo N; upgrade CERT; include A B; same A B; valid --stream N SCHEMA DOC")
+text_of usage = line (codes "usage: check|prove [--limit N] IN OUT SHEET; verify IN OUT SHEET CERT; run SHEET DOC; valid SCHEMA DOC; demo N; upgrade CERT; dead IN SHEET; include A B; same A B; valid --stream N SCHEMA DOC")
 text_of (cannot_read name) = line (codes "cannot read " ++ name)
 text_of file_limit = limit_line (codes "file") LONGEST_FILE
 text_of (safe tree_rows hedge_rows output_sets) = safe_line tree_rows hedge_rows output_sets
@@ -102,6 +112,7 @@ text_of (not_included document) = not_included_lines document
 text_of equal = line (codes "same")
 text_of (first_only document) = different_lines (codes "first-only") document
 text_of (second_only document) = different_lines (codes "second-only") document
+text_of (spots told) = spots_lines told
 text_of (refused name reason place) = line (codes "refused " ++ name ++ codes " " ++ reason_text reason ++ codes " at " ++ decimal place)
 text_of (over_limit kind number) = limit_line (limit_word kind) number
 text_of is_valid = line (codes "valid")

@@ -2,12 +2,9 @@
 use Rattle.std.specs.Prelude.{◌≡◌, ℕ, List, Ok}
 use Rattle.tc_answer.specs.Answers as a
 use Rattle.tc_answer.specs.Answers.{status_of, text_of}
-use Rattle.tc_answer.specs.Lines as l
 use Rattle.tc_answer.specs.Reading.{StopsAt, IsUnreadable}
 use Rattle.tc_answer.specs.Words as w
 use Rattle.tc_answer.specs.declared.answer.Answer.{Answer}
-use Rattle.tc_answer.specs.declared.answer.Rejection.{Rejection}
-use Rattle.tc_answer.specs.declared.answer.Rejection.TheVariants.{Form, Fit, Empty, Text, Append, Wrap, Root}
 use Rattle.tc_answer.specs.declared.answer.Text as written
 use Rattle.tc_answer.specs.declared.answer.Text.TheVariants.{Fixed, Made}
 use Rattle.tc_answer.specs.declared.read.Operand.{Operand}
@@ -17,20 +14,10 @@ use Rattle.tc_answer.specs.declared.read.Unread.TheVariants as u
 use Rattle.tc_io.specs.Store.{Read}
 use Rattle.tc_io.specs.declared.StoreFault.{StoreFault}
 use Rattle.tc_io.specs.declared.StoreFault.TheVariants.{TooLong, NoMemory}
-use Rattle.tc_model.specs.Views.{name}
 
 abbrev pub text : written.Text → List ℕ
 text (Fixed bytes) = bytes.now
 text (Made bytes) = bytes.items
-
-abbrev pub rejection : Rejection → l.Rejection
-rejection (Form line) = l.form_fails line
-rejection (Fit line) = l.fit_fails line
-rejection Empty = l.empty_fails
-rejection Text = l.text_fails
-rejection (Append line other) = l.append_fails line other
-rejection (Wrap line element) = l.wrap_fails line (name element)
-rejection (Root line) = l.root_fails line
 
 -- the status and the text are those of the answer
 pub record Says (said : Answer) (answer : a.Answer) : Type 0 where

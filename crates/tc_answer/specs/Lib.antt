@@ -4,6 +4,8 @@ pub mod Numbered
 pub mod WordsSeen
 pub mod Reading
 pub mod Lines
+pub mod SpotLines
 pub mod Answers
 pub mod AnswersSeen
+pub mod SpotsSeen
 pub mod StatusSeen

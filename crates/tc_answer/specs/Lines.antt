@@ -2,6 +2,7 @@
 use Rattle.std.specs.Prelude.{◌≡◌, ◌<◌, ◌+◌, ℕ, List, [], ◌∷◌, ◌++◌, length, slice_index, codes, decimal}
 use Rattle.tc_base.specs.declared.Limit.{Limit}
 use Rattle.tc_base.specs.declared.Limit.TheVariants.{Pattern, Depth, Elements, States, Symbols, Predicates, Ancestors, Selects, Calls, Entries}
+use Rattle.tc_decide.specs.Rejections.{Rejection, form_fails, fit_fails, empty_fails, text_fails, append_fails, wrap_fails, root_fails}
 use Rattle.tc_decide.specs.RowCounts.{RowCount, trees, hedges, outputs}
 use Rattle.tc_model.specs.Names.{ExpandedName}
 use Rattle.tc_model.specs.Printed.{printed}
@@ -60,24 +61,6 @@ not_included_lines document = line (codes "not-included") ++ document_line docum
 -- the lines that tell of a document that is valid for one of two schemas alone, behind the word for that one
 abbrev pub different_lines : List ℕ → Trees → List ℕ
 different_lines word document = line (codes "different") ++ line (word ++ codes " " ++ printed document)
-
--- the first rule of certificates that fails, with the number of the line where it does; where it is a rule of two lines, or of a line and
--- the name of an element, with these
-pub data Rejection : Type 0 where
-  -- the text isn't a certificate's
-  form_fails : (line_number : ℕ) → Rejection
-  -- the line has a number out of range, or a list of another length
-  fit_fails : (line_number : ℕ) → Rejection
-  -- the row of no tree isn't listed
-  empty_fails : Rejection
-  -- the row of a text isn't listed
-  text_fails : Rejection
-  -- the row of the lists of this line with a tree of another line behind them isn't listed
-  append_fails : (line_number other : ℕ) → Rejection
-  -- the row of an element of this name around the lists of this line isn't listed
-  wrap_fails : (line_number : ℕ) (name : ExpandedName) → Rejection
-  -- the trees of this line may be whole documents, and their results aren't valid
-  root_fails : (line_number : ℕ) → Rejection
 
 -- a namespace name in braces, unless it is empty
 abbrev pub namespace_text : List ℕ → List ℕ

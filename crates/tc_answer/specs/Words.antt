@@ -14,6 +14,7 @@ pub data Command : Type 0 where
   valid_in_pieces : (size : ℕ) (schema document : List ℕ) → Command
   demo : (size : ℕ) → Command
   upgrade : (certificate : List ℕ) → Command
+  dead : (input sheet : List ℕ) → Command
   include : (first second : List ℕ) → Command
   same : (first second : List ℕ) → Command
 
@@ -69,6 +70,8 @@ pub data Words : List (List ℕ) → Command → Type 0 where
       → AreOperands (schema ∷ document ∷ []) → AreSchemas (schema ∷ []) → Words words (valid_in_pieces size schema document)
   shows : {words : List (List ℕ)} {numeral : List ℕ} {size : ℕ} → words ≡ codes "demo" ∷ numeral ∷ [] → IsNumeral 40 numeral size → Words words (demo size)
   upgrades : {words : List (List ℕ)} {certificate : List ℕ} → words ≡ codes "upgrade" ∷ certificate ∷ [] → AreOperands (certificate ∷ []) → Words words (upgrade certificate)
+  asks_dead : {words : List (List ℕ)} {input sheet : List ℕ} → words ≡ codes "dead" ∷ input ∷ sheet ∷ []
+      → AreOperands (input ∷ sheet ∷ []) → AreSchemas (input ∷ []) → Words words (dead input sheet)
   includes : {words : List (List ℕ)} {first second : List ℕ} → words ≡ codes "include" ∷ first ∷ second ∷ []
       → AreOperands (first ∷ second ∷ []) → AreSchemas (first ∷ second ∷ []) → Words words (include first second)
   compares : {words : List (List ℕ)} {first second : List ℕ} → words ≡ codes "same" ∷ first ∷ second ∷ []
@@ -92,6 +95,7 @@ name_of (valid schema document) = codes "valid"
 name_of (valid_in_pieces size schema document) = codes "valid"
 name_of (demo size) = codes "demo"
 name_of (upgrade certificate) = codes "upgrade"
+name_of (dead input sheet) = codes "dead"
 name_of (include first second) = codes "include"
 name_of (same first second) = codes "same"
 
@@ -117,5 +121,6 @@ operands_of (valid first document) = schema first ∷ plain document ∷ []
 operands_of (valid_in_pieces size first document) = schema first ∷ plain document ∷ []
 operands_of (demo size) = []
 operands_of (upgrade certificate) = plain certificate ∷ []
+operands_of (dead input sheet) = schema input ∷ plain sheet ∷ []
 operands_of (include first second) = schema first ∷ schema second ∷ []
 operands_of (same first second) = schema first ∷ schema second ∷ []

@@ -2,7 +2,7 @@
 use Rattle.std.specs.Prelude.{ℕ, List, map, String, string_bytes}
 use Rattle.tc_answer.specs.Words as w
 use Rattle.tc_answer.specs.declared.command.Command.{Command}
-use Rattle.tc_answer.specs.declared.command.Command.TheVariants.{Check, Prove, Verify, Run, Valid, ValidInPieces, Demo, Upgrade, Include, Same}
+use Rattle.tc_answer.specs.declared.command.Command.TheVariants.{Check, Prove, Verify, Run, Valid, ValidInPieces, Demo, Upgrade, Dead, Include, Same}
 
 abbrev pub texts : {Z : Type 0} → List (String Z) → List (List ℕ)
 texts words = map string_bytes words
@@ -16,5 +16,6 @@ command (Valid schema document) = w.valid schema.now document.now
 command (ValidInPieces size schema document) = w.valid_in_pieces size schema.now document.now
 command (Demo size) = w.demo size
 command (Upgrade certificate) = w.upgrade certificate.now
+command (Dead input sheet) = w.dead input.now sheet.now
 command (Include first second) = w.include first.now second.now
 command (Same first second) = w.same first.now second.now

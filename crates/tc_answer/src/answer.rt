@@ -5,18 +5,21 @@ ghost use Rattle.tc_model.specs.Printed.{printed};
 ghost use Rattle.tc_model.specs.Views as see;
 ghost use Rattle.tc_model.specs.Views.{trees};
 ghost use Rattle.tc_answer.specs.Answers as a;
-ghost use Rattle.tc_answer.specs.AnswersSeen.{text as see_text, rejection};
+ghost use Rattle.tc_answer.specs.AnswersSeen.{text as see_text};
+ghost use Rattle.tc_decide.specs.Rejections.{rejection};
+ghost use Rattle.tc_answer.specs.SpotsSeen.{spot_uses};
 ghost use Rattle.tc_decide.specs.RowCounts.{row_count};
 ghost use Rattle.tc_answer.specs.Lines.{line, limit_word, limit_line, count_word, namespace_text};
 
 use crate::buffer::Buffer;
+use crate::spots::{count_dead, put_places, put_spots, status_by_dead};
 use crate::status::Status;
 use std::alloc::Global;
 use tc_base::limits::{LONGEST_FILE, MOST_OPEN, MOST_WORK};
 use tc_base::{Limit, NoMemory, Place};
-use tc_decide::RowCount;
 use tc_decide::limits::{LONGEST_CERTIFICATE, LONGEST_TAG, MOST_NAMES, MOST_SHOWN_NODES};
-use tc_model::{Name, Node};
+use tc_decide::{Rejection, RowCount, SpotTold};
+use tc_model::Node;
 use tc_read::Reason;
 
 /// The text of an answer.
@@ -46,25 +49,6 @@ impl Text {
 pub struct Answer {
     pub status: Status,
     pub text: Text,
-}
-
-/// The first rule of certificates that fails. Lines have the numbers of a certificate's text, from 1.
-#[derive(Clone, Copy)]
-pub enum Rejection<'w> {
-    /// The text isn't a certificate's: the first line that isn't as it must be.
-    Form(u32),
-    /// The first line with a number out of range, or with a list of another length.
-    Fit(u32),
-    /// The row of no tree isn't listed.
-    Empty,
-    /// The row of a text isn't listed.
-    Text,
-    /// The row of the lists of a line with a tree of another line behind them isn't listed.
-    Append(u32, u32),
-    /// The row of an element of this name around the lists of a line isn't listed.
-    Wrap(u32, Name<'w>),
-    /// The trees of a line may be whole documents, and their results aren't valid.
-    Root(u32),
 }
 
 /// The word of the limit on what is counted of rows.
@@ -230,7 +214,7 @@ impl Answer {
         Answer {
             status: Status::Usage,
             text: Text::Fixed(
-                b"usage: check|prove [--limit N] IN OUT SHEET; verify IN OUT SHEET CERT; run SHEET DOC; valid SCHEMA DOC; demo N; upgrade CERT; include A B; same A B; valid --stream N SCHEMA DOC\n",
+                b"usage: check|prove [--limit N] IN OUT SHEET; verify IN OUT SHEET CERT; run SHEET DOC; valid SCHEMA DOC; demo N; upgrade CERT; dead IN SHEET; include A B; same A B; valid --stream N SCHEMA DOC\n",
             ),
         }
     }
@@ -402,6 +386,20 @@ impl Answer {
             document,
             b"\n",
         )
+    }
+
+    /// What is told of each rule, named body and branch of a stylesheet, and how many of them are dead.
+    pub fn spots(alloc: Global, told: &[SpotTold<'_>]) -> Result<Answer, NoMemory>
+        ensures { IfOk result (λ said. Says said (a.spots (spot_uses told.now))) }
+    {
+        let dead = count_dead(told);
+        let mut text = Buffer::new(alloc);
+        put_spots(&mut text, told)?;
+        put_places(&mut text, told.len(), dead)?;
+        Ok(Answer {
+            status: status_by_dead(dead),
+            text: Text::Made(text.into_bytes()),
+        })
     }
 
     /// The text of an operand is refused at a place.

@@ -42,7 +42,7 @@ impl Buffer {
     }
 
     /// Puts bytes at the end.
-    fn put(&mut self, piece: &[u8]) -> Result<(), NoMemory>
+    pub fn put(&mut self, piece: &[u8]) -> Result<(), NoMemory>
         ensures { OnOk result (self.new.bytes.items ≡ self.old.bytes.items ++ piece.now) }
     {
         self.bytes.extend_from_slice(piece)?;

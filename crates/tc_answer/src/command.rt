@@ -35,6 +35,8 @@ pub enum Command<'w> {
     Demo(u32),
     /// Write the certificate of this name in version 2, whichever version it is in.
     Upgrade(&'w str),
+    /// Tell which rules, named bodies and branches of a stylesheet no document instantiates that is valid for a schema.
+    Dead(&'w str, &'w str),
     /// Tell whether each document that is valid for the first schema is valid for the second.
     Include(&'w str, &'w str),
     /// Tell whether the same documents are valid for two schemas.
@@ -67,6 +69,7 @@ pub fn read_words(words: &[String]) -> Option<Command<'_>>
         "valid" => read_valid(rest),
         "demo" => read_demo(rest),
         "upgrade" => read_upgrade(rest),
+        "dead" => read_dead(rest),
         "include" => read_inclusion(rest, false),
         "same" => read_inclusion(rest, true),
         _ => None,
@@ -199,6 +202,18 @@ fn read_upgrade(words: &[String]) -> Option<Command<'_>>
         return None;
     }
     Some(Command::Upgrade(words[0].as_str()))
+}
+
+/// What asks for dead spots: a schema, and the name of a stylesheet.
+fn read_dead(words: &[String]) -> Option<Command<'_>>
+    ensures { MatchOption result (IsNoCommand (codes "dead" ∷ texts words.now))
+        (λ c. Words (codes "dead" ∷ texts words.now) (command c)) }
+{
+    let (input, sheet) = read_pair(words)?;
+    if !is_schema_word(input) {
+        return None;
+    }
+    Some(Command::Dead(input, sheet))
 }
 
 /// Two operands.

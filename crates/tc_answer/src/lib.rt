@@ -8,11 +8,12 @@ mod command;
 pub mod laws;
 mod read;
 mod sources;
+mod spots;
 mod status;
 mod words;
 mod write;
 
-pub use answer::{Answer, Rejection, Text};
+pub use answer::{Answer, Text};
 pub use command::{Command, Triple, read_words};
 pub use read::{Operand, Operands, Unread, read_operand, read_pair, read_triple, read_verified};
 pub use sources::{Source, schema_root};

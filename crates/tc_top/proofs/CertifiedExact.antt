@@ -1,19 +1,17 @@
 -- What `prove`, `verify` and `upgrade` of held files decide is exact.
 use Rattle.std.proofs.Common.{◌≡◌, ◌≤◌, ◌<◌, ◌⊎◌, ◌∷◌, [], ◌∙◌, inl, inr, refl, sym, subst, ap, ℕ, List, Option, Some, Ok, length, arith}
 use Rattle.tc_answer.specs.Answers.{Answer, certificate, accepted, file_limit, cannot_read, status_of, text_of}
-use Rattle.tc_answer.specs.Lines.{Rejection, form_fails}
 use Rattle.tc_answer.specs.SchemaWords.{file_of}
 use Rattle.tc_answer.specs.Words as w
-use Rattle.tc_answer.specs.Words.{Words, operands_of}
+use Rattle.tc_answer.specs.Words.{operands_of}
 use Rattle.tc_answer.specs.Reading.{AreRead}
 use Rattle.tc_decide.specs.declared.limits.TheConstants.{LONGEST_CERTIFICATE}
 use Rattle.tc_answer.specs.declared.status.Status.{Status}
-use Rattle.tc_answer.specs.declared.status.Status.TheVariants.{Yes, No, Limit}
+use Rattle.tc_answer.specs.declared.status.Status.TheVariants.{Yes}
 use Rattle.tc_answer.proofs.OneCommand.{one_command}
-use Rattle.tc_answer.proofs.ReadsOnce.{AreHeld, no_file, holds, none_long, is_short, well, reads_are, held_true}
+use Rattle.tc_answer.proofs.ReadsOnce.{AreHeld, no_file, holds, none_long, is_short, reads_are, held_true}
 use Rattle.tc_base.specs.declared.Limit as kinds
-use Rattle.tc_cert.specs.Fronts.{IsFirstFault}
-use Rattle.tc_cert.specs.Texts.{text, by_changes, CertificateText}
+use Rattle.tc_cert.specs.Texts.{text, by_changes}
 use Rattle.tc_cert.proofs.Fronts.{no_fault}
 use Rattle.tc_cert.proofs.FirstFaults.{one_data}
 use Rattle.tc_io.specs.Reads.{AreTrue}
@@ -24,17 +22,20 @@ use Rattle.tc_model.specs.Safety.{IsSafe}
 use Rattle.tc_model.specs.Sheets.{Sheet}
 use Rattle.tc_model.specs.declared.lists.CertData.{CertData}
 use Rattle.tc_top.specs.Answers.{IsAnswerTo, proved, verified, upgraded, IsAnswer, decided, IsAnswerOn}
-use Rattle.tc_top.specs.CertifiedFiles.{HoldTriple, HoldShort, ProvesFiles, VerifiesFiles, VerifiesShortFiles, UpgradesFiles, HasShortCertificate, DecidesProof, IsCertificateText, IsRejectionOf, of_form, of_rule, DecidesCertificate, DecidesUpgrade, ProvedIsAccepted}
+use Rattle.tc_top.specs.CertifiedFiles.{HoldTriple, ProvesFiles, VerifiesFiles, VerifiesShortFiles, UpgradesFiles, DecidesProof, DecidesCertificate, DecidesUpgrade, ProvedIsAccepted}
 use Rattle.tc_top.specs.Causes.{all_three}
-use Rattle.tc_top.specs.Certifying.{IsRejectedFor, IsCertificateOf, IsLeastOf, IsOverlong, Certifies, as_checked, certifies, overlong, Accepts, stops_before_rows, accepts, no_text, no_certificate, Proves, Verifies, Upgrades, upgrades, too_long, no_form}
+use Rattle.tc_top.specs.Certifying.{Certifies, as_checked, certifies, overlong, Accepts, stops_before_rows, accepts, no_text, no_certificate, Proves, Verifies, Upgrades, upgrades, too_long, no_form}
 use Rattle.tc_top.specs.Checking.{most_rows}
-use Rattle.tc_decide.specs.Checking.{IsWithinTripleLimits, PassesTripleLimit, HasFewRows}
-use Rattle.tc_top.specs.Headline.{IsCutShort, DecidesSafety, IsLimited}
+use Rattle.tc_decide.specs.Checking.{IsWithinTripleLimits, HasFewRows}
+use Rattle.tc_decide.specs.Rejections.{form_fails, of_form, of_rule}
+use Rattle.tc_top.specs.Headline.{IsCutShort, DecidesSafety}
 use Rattle.tc_top.specs.OneAnswer.{IsOfFault}
 use Rattle.tc_top.proofs.Exact.{read_all, held_decided}
 use Rattle.tc_top.proofs.Headline.{cut_short, told_of_file, not_no, not_limit, no_limit, few_not_limited, decides, before_rows_lines}
-use Rattle.tc_top.proofs.OneCertifying.{only_yes, short_overlong, accepted_rejected}
-use Rattle.tc_top.proofs.CertifiedTexts.{safe_certified, proved_accepted}
+use Rattle.tc_top.proofs.OneCertifying.{only_yes}
+use Rattle.tc_decide.proofs.Proving.{short_overlong}
+use Rattle.tc_decide.proofs.Verifications.{not_it}
+use Rattle.tc_top.proofs.CertifiedTexts.{proved_accepted}
 use Rattle.tc_decide.proofs.Deciding.{not_both}
 use Rattle.tc_decide.proofs.Passing.{over_triple}
 use Rattle.tc_top.proofs.OneCheck.{one_triple_limit, decided_of}
@@ -108,12 +109,6 @@ proof_of_files {words} {rose} {reads} files limit i o s status old new answer c 
 -- `verify`
 
 module _ (i o : Grammar) (s : Sheet) (bytes : List ℕ) (status : Status) (old new : Option (List ℕ)) where
-  not_text : {line : ℕ} → IsFirstFault bytes line → IsCertificateText i o s bytes → ⊥
-  not_text {line} f (d, spelled, c) = no_fault bytes d line spelled f
-
-  not_it : {d : CertData} {why : Rejection} → length bytes ≤ longest_file → CertificateText bytes d → IsRejectedFor i o s d why → IsCertificateText i o s bytes → ⊥
-  not_it {d} {why} h t r (e, u, c) = accepted_rejected bytes h e d why u t c r
-
   pub certificate_decides : {answer : Answer} → length bytes ≤ longest_file → status ≡ status_of answer → Appended old new (text_of answer) → Accepts i o s bytes answer → DecidesCertificate i o s status old new bytes
   certificate_decides h is written (stops_before_rows {kind = k} {number = n} p) = record {
     yes = (λ e. absurd (not_limit e is), λ x. absurd (over_triple p x.0));
@@ -124,7 +119,7 @@ module _ (i o : Grammar) (s : Sheet) (bytes : List ℕ) (status : Status) (old n
     no_text = λ e. absurd (no_limit e is);
     before_rows_text = λ kind number q. before_rows_lines old new (one_triple_limit p q) written;
   }
-  certificate_decides h is written (accepts {d = d} v t c) = record {
+  certificate_decides h is written (accepts {d = d} v t c safe) = record {
     yes = (λ _. (v, (d, t, c)), λ _. is);
     no = (λ e. absurd (not_no is e), λ x. absurd (x.1 (d, t, c)));
     limit = (λ e. absurd (not_limit is e), λ x. absurd (over_triple x.2 v));
@@ -134,8 +129,8 @@ module _ (i o : Grammar) (s : Sheet) (bytes : List ℕ) (status : Status) (old n
     before_rows_text = λ kind number q. absurd (over_triple q v);
   }
   certificate_decides h is written (no_text {line = n} v f) = record {
-    yes = (λ e. absurd (not_no e is), λ x. absurd (not_text f x.1));
-    no = (λ _. (v, not_text f), λ _. is);
+    yes = (λ e. absurd (not_no e is), λ x. absurd (not_it bytes h (form_fails n) (of_form f) x.1));
+    no = (λ _. (v, not_it bytes h (form_fails n) (of_form f)), λ _. is);
     limit = (λ e. absurd (no_limit is e), λ x. absurd (over_triple x.2 v));
     one = inr (inl is);
     yes_text = λ e. absurd (not_no e is);
@@ -143,8 +138,8 @@ module _ (i o : Grammar) (s : Sheet) (bytes : List ℕ) (status : Status) (old n
     before_rows_text = λ kind number q. absurd (over_triple q v);
   }
   certificate_decides h is written (no_certificate {why = why} v t r) = record {
-    yes = (λ e. absurd (not_no e is), λ x. absurd (not_it h t r x.1));
-    no = (λ _. (v, not_it h t r), λ _. is);
+    yes = (λ e. absurd (not_no e is), λ x. absurd (not_it bytes h why (of_rule t r) x.1));
+    no = (λ _. (v, not_it bytes h why (of_rule t r)), λ _. is);
     limit = (λ e. absurd (no_limit is e), λ x. absurd (over_triple x.2 v));
     one = inr (inl is);
     yes_text = λ e. absurd (not_no e is);
@@ -174,7 +169,7 @@ certificate_of_files {words} {rose} {reads} files i o s bytes status old new ans
 
 says_accepted : {i o : Grammar} {s : Sheet} {bytes : List ℕ} {answer : Answer} → Accepts i o s bytes answer → status_of answer ≡ Yes → IsSafe i o s
 says_accepted (stops_before_rows p) e = absurd (cc)
-says_accepted (accepts {d = d} v t c) e = safe_certified d c
+says_accepted (accepts v t c safe) e = safe
 says_accepted (no_text v f) e = absurd (cc)
 says_accepted (no_certificate v t r) e = absurd (cc)
 

@@ -1,20 +1,20 @@
 -- What is proved is accepted, and what is accepted is safe.
 use Rattle.std.proofs.Common.{◌≡◌, ◌⊎◌, inl, inr, ℕ, List, refl}
 use Rattle.tc_answer.specs.Answers.{Answer, certificate, accepted, rejected}
-use Rattle.tc_answer.specs.Lines.{Rejection, form_fails}
-use Rattle.tc_cert.specs.Texts.{text, by_changes}
+use Rattle.tc_cert.specs.Texts.{by_changes}
 use Rattle.tc_close.proofs.LeastHolds.{least_holds}
 use Rattle.tc_model.specs.Grammars.{Grammar}
 use Rattle.tc_model.specs.Safety.{IsSafe}
 use Rattle.tc_model.specs.Sheets.{Sheet}
 use Rattle.tc_model.specs.declared.lists.CertData.{CertData}
 use Rattle.tc_read.specs.Sheets.{IsSheetOf}
-use Rattle.tc_rows.proofs.Derived.{certificate_is_safe}
 use Rattle.tc_top.specs.Causes.{OfTexts, all_three}
-use Rattle.tc_top.specs.Certifying.{IsCertificateOf, IsLeastOf, Certifies, as_checked, certifies, Accepts, stops_before_rows, accepts, no_text, no_certificate}
+use Rattle.tc_decide.specs.Certificates.{IsCertificateOf, IsLeastOf}
+use Rattle.tc_top.specs.Certifying.{Certifies, as_checked, certifies, Accepts, stops_before_rows, accepts, no_text, no_certificate}
 use Rattle.tc_decide.specs.Checking.{IsWithinTripleLimits}
+use Rattle.tc_decide.specs.Rejections.{Rejection, form_fails}
 use Rattle.tc_top.specs.SchemaTexts.{SchemaText}
-use Rattle.tc_decide.proofs.Triples.{of_triple, to_triple}
+use Rattle.tc_decide.proofs.Triples.{to_triple}
 use Rattle.tc_top.proofs.OneCheck.{decided_of}
 use Rattle.tc_decide.proofs.Passing.{over_triple}
 
@@ -26,19 +26,16 @@ module _ {i o : Grammar} {s : Sheet} where
   -- what is proved is accepted
   accepts_proved : {most : ℕ} {bytes : List ℕ} → Certifies i o s most (certificate bytes) → Accepts i o s bytes accepted
   accepts_proved (as_checked f n) = absurd (n refl)
-  accepts_proved (certifies {d} w few safe least short) = accepts w (record { formed = least.2.formed; version = by_changes; spelled = refl }) (least_is_one d safe least)
+  accepts_proved (certifies {d} w few safe least short) = accepts w (record { formed = least.2.formed; version = by_changes; spelled = refl }) (least_is_one d safe least) safe
 
   -- what is accepted is safe
-  pub safe_certified : (d : CertData) → IsCertificateOf i o s d → IsSafe i o s
-  safe_certified d (x, of, c) = of_triple IsSafe of (certificate_is_safe x of.triple d.outputs _ _ c)
-
   safe_accepted : {bytes : List ℕ} → Accepts i o s bytes accepted → IsSafe i o s
-  safe_accepted (accepts {d} w t c) = safe_certified d c
+  safe_accepted (accepts w t c safe) = safe
 
   -- within the limits bytes are accepted or rejected
   pub yes_or_no : {bytes : List ℕ} {answer : Answer} → IsWithinTripleLimits i o s → Accepts i o s bytes answer → (answer ≡ accepted) ⊎ ((why : Rejection) × (answer ≡ rejected why))
   yes_or_no w (stops_before_rows p) = absurd (over_triple p w)
-  yes_or_no w (accepts v u e) = inl refl
+  yes_or_no w (accepts v u e safe) = inl refl
   yes_or_no w (no_text {line} v f) = inr (form_fails line, refl)
   yes_or_no w (no_certificate {d} {why} v u r) = inr (why, refl)
 

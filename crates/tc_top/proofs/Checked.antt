@@ -1,23 +1,8 @@
 -- What is decided of a machine is found of its schemas and its stylesheet.
 use Rattle.std.proofs.Common.{◌≡◌, subst, ℕ, List}
-use Rattle.tc_answer.specs.Answers.{Answer, counterexample_limit}
-use Rattle.tc_close.specs.Decisions.{IsUnsafeBy, IsFarUnsafe}
-use Rattle.tc_decide.specs.Checking.{IsWithinTripleLimits}
-use Rattle.tc_decide.proofs.Triples.{few_rows, least_counter}
-use Rattle.tc_model.specs.Trees.{Trees}
+use Rattle.tc_answer.specs.Answers.{Answer}
 use Rattle.tc_rows.specs.Triples as t
-use Rattle.tc_rows.specs.Triples.{Triple, IsTriple}
-use Rattle.tc_top.specs.AnswersSeen.{IsRunOf, run_within, run_large}
-use Rattle.tc_top.specs.Causes.{Finds, finds_unsafe, finds_large, finds_none_small, Checks}
-
-module _ (x : Triple) (is : IsTriple x) where
-  pub found_far : {most : ℕ} → IsWithinTripleLimits x.input x.output (t.sheet x) → IsFarUnsafe x most → Finds most x.input x.output (t.sheet x) counterexample_limit
-  found_far w h = finds_none_small w (few_rows x is h.keeps) (record { some = h.some; large = h.far })
-
-  pub found_unsafe : {most : ℕ} {document : Trees} {answer : Answer} → IsWithinTripleLimits x.input x.output (t.sheet x) → IsUnsafeBy x most document → IsRunOf (t.sheet x) document answer
-      → Finds most x.input x.output (t.sheet x) answer
-  found_unsafe w h (run_within k r) = finds_unsafe w (few_rows x is h.keeps) (least_counter x is h) k r
-  found_unsafe w h (run_large k) = finds_large w (few_rows x is h.keeps) (least_counter x is h) k
+use Rattle.tc_top.specs.Causes.{Checks}
 
 -- a check with an equal limit of rows
 pub checks_at : {most other : ℕ} {input output sheet b c d : List ℕ} {answer : Answer} → most ≡ other → Checks most input output sheet b c d answer → Checks other input output sheet b c d answer

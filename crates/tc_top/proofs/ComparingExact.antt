@@ -1,5 +1,5 @@
 -- What is found of two schemas decides all that is asked of them.
-use Rattle.std.proofs.Common.{◌≡◌, ◌≤◌, ◌<◌, ◌⊎◌, ◌+◌, inl, inr, sym, subst, ◌∙◌, ℕ, List, Option, codes, arith}
+use Rattle.std.proofs.Common.{◌≡◌, ◌≤◌, ◌<◌, inl, inr, sym, ◌∙◌, ℕ, List, Option, codes, arith}
 use Rattle.tc_answer.specs.Answers.{Answer, status_of, text_of, over_limit}
 use Rattle.tc_decide.specs.RowCounts.{RowCount}
 use Rattle.tc_answer.specs.Lines.{limit_line, count_word}
@@ -7,17 +7,19 @@ use Rattle.tc_answer.specs.declared.status.Status.{Status}
 use Rattle.tc_answer.specs.declared.status.Status.TheVariants.{Yes, No, Limit}
 use Rattle.tc_decide.specs.declared.limits.TheConstants.{MOST_ROWS, MOST_SHOWN_NODES}
 use Rattle.tc_base.specs.declared.Limit as kinds
-use Rattle.tc_incl.specs.Schemas.{IsIncluded, IsDifference}
+use Rattle.tc_incl.specs.Schemas.{IsDifference}
 use Rattle.tc_io.specs.Sink.{Appended}
 use Rattle.tc_model.specs.Grammars.{Grammar}
 use Rattle.tc_model.specs.Printed.{printed}
 use Rattle.tc_model.specs.Trees.{Trees, none, text, element, node_count, IsDocument}
 use Rattle.tc_print.specs.ReadBack.{nesting, IsReadAs}
 use Rattle.tc_print.proofs.ReadBack.{read_back}
-use Rattle.tc_top.specs.Comparing.{Question, inclusion, equality, AreWithinPairLimits, HasManyCovers, HasFewCovers, PassesPairLimit, forward, backward, IsShown, IsOfOne, FindsInclusion, inclusion_passes, inclusion_covers, finds_included, finds_not_included, finds_none_shown, FindsEquality, equality_passes, equality_covers_forward, equality_covers_backward, finds_equal, finds_first_only, finds_second_only, finds_no_one_shown, FindsBoth}
-use Rattle.tc_top.specs.ComparedFiles.{AreKept, IsSo, Refutes, HasSmallRefutation, HasLargeRefutations, IsLeastRefutation, AreTooMany, in_inclusion, in_first, in_second, IsLimited, limited_before_rows, limited_in_rows, limited_in_nodes, ShowsSo, Shows, shows_difference, shows_first, shows_second, DecidesComparison}
+use Rattle.tc_decide.specs.Comparing.{Question, inclusion, equality, AreWithinPairLimits, PassesPairLimit, IsShown, IsOfOne, AreKept, IsSo, Refutes, HasLargeRefutations, IsLeastRefutation, AreTooMany, in_inclusion, in_first, in_second}
+use Rattle.tc_top.specs.Comparing.{FindsInclusion, inclusion_passes, inclusion_covers, finds_included, finds_not_included, finds_none_shown, FindsEquality, equality_passes, equality_covers_forward, equality_covers_backward, finds_equal, finds_first_only, finds_second_only, finds_no_one_shown, FindsBoth}
+use Rattle.tc_top.specs.ComparedFiles.{IsLimited, limited_before_rows, limited_in_rows, limited_in_nodes, ShowsSo, Shows, shows_difference, shows_first, shows_second, DecidesComparison}
 use Rattle.tc_top.specs.OneAnswer.{AreAlike, same_answer}
-use Rattle.tc_top.proofs.OneComparison.{over_pair, one_pair_limit, not_different, equal_not_of_one}
+use Rattle.tc_top.proofs.OneComparison.{one_pair_limit}
+use Rattle.tc_decide.proofs.Compared.{over_pair, within_limits, not_refuted, kept_few, small_large}
 
 -- a document that can be shown is read back
 deep_within : (h : Trees) → nesting h ≤ node_count h
@@ -51,95 +53,77 @@ module _ (g h : Grammar) where
   reads_back : (question : Question) (document : Trees) → Refutes g h question document → IsShown g h document → IsReadAs (printed document) document
   reads_back question document refutes shown = read_back document (record { document = is_document question document refutes; shallow = omega (arith, deep_within document, shown.few) })
 
-  within_limits : (question : Question) → AreKept g h question → AreWithinPairLimits g h
-  within_limits inclusion k = k.0
-  within_limits equality k = k.0
-
-  -- what is so isn't refuted
-  not_refuted : (question : Question) (document : Trees) → IsSo g h question → Refutes g h question document → ⊥
-  not_refuted inclusion document into d = not_different into d
-  not_refuted equality document (i, j) d = equal_not_of_one i j d
-
-  -- counts that are kept don't pass
-  kept_few : (question : Question) (count : RowCount) → AreKept g h question → AreTooMany g h question count → ⊥
-  kept_few inclusion count k (in_inclusion p) = k.1 _ p
-  kept_few equality count k (in_first p) = k.1 _ p
-  kept_few equality count k (in_second f p) = k.2 _ p
-
-  small_large : (question : Question) → HasSmallRefutation g h question → HasLargeRefutations g h question → ⊥
-  small_large question (document, refutes, few) large = let far = large.large document refutes in omega (arith, few, far)
-
   module _ (question : Question) (status : Status) (old new : Option (List ℕ)) where
     abbrev Decides : Type 0
     Decides = DecidesComparison g h status old new question
 
     not_limited : AreKept g h question → (HasLargeRefutations g h question → ⊥) → IsLimited g h question → ⊥
-    not_limited k n (limited_before_rows p) = over_pair p (within_limits question k)
-    not_limited k n (limited_in_rows count w p) = kept_few question _ k p
+    not_limited k n (limited_before_rows p) = over_pair p (within_limits g h question k)
+    not_limited k n (limited_in_rows count w p) = kept_few g h question _ k p
     not_limited k n (limited_in_nodes j l) = n l
 
     is_yes : status ≡ Yes → AreKept g h question → IsSo g h question → ShowsSo g h question old new → Decides
     is_yes is k so shows = record {
       yes = (λ _. (k, so), λ _. is);
-      no = (λ e. absurd (not_no is e), λ x. absurd (not_refuted question _ so x.1.1));
-      limit = (λ e. absurd (not_limit is e), λ l. absurd (not_limited k (λ x. not_refuted question _ so x.some.1) l));
+      no = (λ e. absurd (not_no is e), λ x. absurd (not_refuted g h question _ so x.1.1));
+      limit = (λ e. absurd (not_limit is e), λ l. absurd (not_limited k (λ x. not_refuted g h question _ so x.some.1) l));
       one = inl is;
       yes_text = λ _. shows;
       no_text = λ e. absurd (not_no is e);
-      before_rows_text = λ kind number p. absurd (over_pair p (within_limits question k));
-      rows_text = λ count w p. absurd (kept_few question _ k p);
-      nodes_text = λ j l. absurd (not_refuted question _ so l.some.1);
+      before_rows_text = λ kind number p. absurd (over_pair p (within_limits g h question k));
+      rows_text = λ count w p. absurd (kept_few g h question _ k p);
+      nodes_text = λ j l. absurd (not_refuted g h question _ so l.some.1);
     }
 
     is_no : (document : Trees) → status ≡ No → AreKept g h question → IsLeastRefutation g h question document → IsShown g h document → Shows g h old new document question → Decides
     is_no document is k least shown shows = record {
-      yes = (λ e. absurd (not_no e is), λ x. absurd (not_refuted question _ x.1 least.refutes));
+      yes = (λ e. absurd (not_no e is), λ x. absurd (not_refuted g h question _ x.1 least.refutes));
       no = (λ _. (k, (document, least.refutes, shown.few)), λ _. is);
-      limit = (λ e. absurd (no_limit is e), λ l. absurd (not_limited k (λ x. small_large question (document, least.refutes, shown.few) x) l));
+      limit = (λ e. absurd (no_limit is e), λ l. absurd (not_limited k (λ x. small_large g h question (document, least.refutes, shown.few) x) l));
       one = inr (inl is);
       yes_text = λ e. absurd (not_no e is);
       no_text = λ _. (document, least, shown, reads_back question document least.refutes shown, shows);
-      before_rows_text = λ kind number p. absurd (over_pair p (within_limits question k));
-      rows_text = λ count w p. absurd (kept_few question _ k p);
-      nodes_text = λ j l. absurd (small_large question (document, least.refutes, shown.few) l);
+      before_rows_text = λ kind number p. absurd (over_pair p (within_limits g h question k));
+      rows_text = λ count w p. absurd (kept_few g h question _ k p);
+      nodes_text = λ j l. absurd (small_large g h question (document, least.refutes, shown.few) l);
     }
 
     is_pair_limit : {kind : kinds.Limit} {number : ℕ} → status ≡ Limit → PassesPairLimit g h kind number → Appended old new (text_of (over_limit kind number)) → Decides
     is_pair_limit is p written = record {
-      yes = (λ e. absurd (not_limit e is), λ x. absurd (over_pair p (within_limits question x.0)));
-      no = (λ e. absurd (no_limit e is), λ x. absurd (over_pair p (within_limits question x.0)));
+      yes = (λ e. absurd (not_limit e is), λ x. absurd (over_pair p (within_limits g h question x.0)));
+      no = (λ e. absurd (no_limit e is), λ x. absurd (over_pair p (within_limits g h question x.0)));
       limit = (λ _. limited_before_rows p, λ _. is);
       one = inr (inr is);
       yes_text = λ e. absurd (not_limit e is);
       no_text = λ e. absurd (no_limit e is);
       before_rows_text = λ kind number q. before_rows_lines old new (one_pair_limit p q) written;
       rows_text = λ count w q. absurd (over_pair p w);
-      nodes_text = λ j l. absurd (over_pair p (within_limits question j));
+      nodes_text = λ j l. absurd (over_pair p (within_limits g h question j));
     }
 
     is_rows : (count : RowCount) → status ≡ Limit → AreWithinPairLimits g h → AreTooMany g h question count → Appended old new (limit_line (count_word count) MOST_ROWS) → Decides
     is_rows count is w p written = record {
-      yes = (λ e. absurd (not_limit e is), λ x. absurd (kept_few question _ x.0 p));
-      no = (λ e. absurd (no_limit e is), λ x. absurd (kept_few question _ x.0 p));
+      yes = (λ e. absurd (not_limit e is), λ x. absurd (kept_few g h question _ x.0 p));
+      no = (λ e. absurd (no_limit e is), λ x. absurd (kept_few g h question _ x.0 p));
       limit = (λ _. limited_in_rows count w p, λ _. is);
       one = inr (inr is);
       yes_text = λ e. absurd (not_limit e is);
       no_text = λ e. absurd (no_limit e is);
       before_rows_text = λ kind number q. absurd (over_pair q w);
       rows_text = λ other v q. (count, p, written);
-      nodes_text = λ j l. absurd (kept_few question _ j p);
+      nodes_text = λ j l. absurd (kept_few g h question _ j p);
     }
 
     is_nodes : status ≡ Limit → AreKept g h question → HasLargeRefutations g h question → Appended old new (limit_line (codes "counterexample") MOST_SHOWN_NODES) → Decides
     is_nodes is k l written = record {
-      yes = (λ e. absurd (not_limit e is), λ x. absurd (not_refuted question _ x.1 l.some.1));
-      no = (λ e. absurd (no_limit e is), λ x. absurd (small_large question x.1 l));
+      yes = (λ e. absurd (not_limit e is), λ x. absurd (not_refuted g h question _ x.1 l.some.1));
+      no = (λ e. absurd (no_limit e is), λ x. absurd (small_large g h question x.1 l));
       limit = (λ _. limited_in_nodes k l, λ _. is);
       one = inr (inr is);
       yes_text = λ e. absurd (not_limit e is);
       no_text = λ e. absurd (no_limit e is);
-      before_rows_text = λ kind number q. absurd (over_pair q (within_limits question k));
-      rows_text = λ count w q. absurd (kept_few question _ k q);
+      before_rows_text = λ kind number q. absurd (over_pair q (within_limits g h question k));
+      rows_text = λ count w q. absurd (kept_few g h question _ k q);
       nodes_text = λ j m. written;
     }
 

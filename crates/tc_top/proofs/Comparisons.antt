@@ -9,11 +9,12 @@ use Rattle.tc_io.specs.Store.{Files, Read}
 use Rattle.tc_model.specs.Grammars.{Grammar}
 use Rattle.tc_top.specs.Answers.{IsAnswerTo, compared_one_way, compared_both_ways, IsAnswer}
 use Rattle.tc_top.specs.ComparedFiles.{ComparesFiles, DecidesComparison}
-use Rattle.tc_top.specs.Comparing.{Question, inclusion, equality, Compares}
+use Rattle.tc_decide.specs.Comparing.{Question, inclusion, equality}
+use Rattle.tc_top.specs.Comparing.{Compares}
 use Rattle.tc_top.specs.Headline.{IsCutShort}
 use Rattle.tc_top.specs.OneAnswer.{IsOfFault}
 use Rattle.tc_top.proofs.ComparingExact.{decides}
-use Rattle.tc_answer.proofs.ReadsOnce.{AreHeld, no_file, holds, AreShort, none_long, is_short}
+use Rattle.tc_answer.proofs.ReadsOnce.{no_file, holds, none_long, is_short}
 use Rattle.tc_top.proofs.Exact.{read_all}
 use Rattle.tc_top.proofs.Headline.{cut_short}
 use Rattle.tc_top.proofs.OneComparison.{compared_of}

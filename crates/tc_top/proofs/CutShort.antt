@@ -15,6 +15,14 @@ fault_not_yes e = absurd (cc)
 pub fault_not_no : {P : Type 0} → WriteFault ≡ No → P
 fault_not_no e = absurd (cc)
 
+pub memory_not_told : {P : Type 0} → (NoMemory ≡ Yes) ⊎ (NoMemory ≡ No) → P
+memory_not_told (inl e) = memory_not_yes e
+memory_not_told (inr e) = memory_not_no e
+
+pub fault_not_told : {P : Type 0} → (WriteFault ≡ Yes) ⊎ (WriteFault ≡ No) → P
+fault_not_told (inl e) = fault_not_yes e
+fault_not_told (inr e) = fault_not_no e
+
 pub by_memory : {P Q : Type 0} → IsCutShort NoMemory P ⊎ Q
 by_memory = inl (inl refl)
 

@@ -11,7 +11,7 @@ use Rattle.tc_top.specs.OneAnswer.{AreAlike, same_answer, IsOfFault}
 use Rattle.tc_answer.specs.Words.{Command, Source, check, run, valid, demo, Words, IsNoCommand, operands_of}
 use Rattle.tc_answer.specs.Reading.{StopsAt, at_first, past_first, IsUnreadable, AreRead}
 use Rattle.tc_answer.specs.Answers.{Answer, usage, cannot_read, file_limit}
-use Rattle.tc_top.specs.Answers.{IsAnswerTo, checked, proved, verified, ran, validated, validated_in_pieces, shown, upgraded, compared_one_way, compared_both_ways, IsAnswer, no_command, not_read, over_long, decided}
+use Rattle.tc_top.specs.Answers.{IsAnswerTo, checked, proved, verified, ran, validated, validated_in_pieces, shown, upgraded, told_dead, compared_one_way, compared_both_ways, IsAnswer, no_command, not_read, over_long, decided}
 use Rattle.tc_answer.proofs.OneCommand.{one_command}
 use Rattle.tc_answer.proofs.ReadsOnce.{never_stops, one_stop, one_texts, Follows, stop_follows, memory_no, long_memory, all_follow, no_reads, FailsIn, same_reads, AreHeld, holds, AreShort, well, well_read, well_true, held_texts}
 use Rattle.tc_top.proofs.OneValidity.{validates_one}
@@ -20,6 +20,7 @@ use Rattle.tc_top.proofs.OneCheck.{one_check}
 use Rattle.tc_top.proofs.OneCertifying.{one_proof, one_verification, one_upgrade}
 use Rattle.tc_top.proofs.OneComparison.{compares_one}
 use Rattle.tc_top.proofs.OneInPieces.{in_pieces_one}
+use Rattle.tc_top.proofs.OneSpots.{dead_one}
 
 -- words of no command have the usage as their answer
 pub usage_only : {words : List (List ℕ)} {reads : List Read} {answer : Answer} → IsNoCommand words → IsAnswer words reads answer → answer ≡ usage
@@ -74,6 +75,7 @@ answers_one (validated x) (validated y) = validates_one x y
 answers_one (validated_in_pieces x) (validated_in_pieces y) = in_pieces_one x y
 answers_one (shown x) (shown y) = one_check x y
 answers_one (upgraded h x) (upgraded k y) = one_upgrade h x y
+answers_one (told_dead x) (told_dead y) = dead_one x y
 answers_one (compared_one_way x) (compared_one_way y) = compares_one x y
 answers_one (compared_both_ways x) (compared_both_ways y) = compares_one x y
 

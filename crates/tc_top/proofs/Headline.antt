@@ -15,7 +15,7 @@ use Rattle.tc_print.proofs.ReadBack.{read_back}
 use Rattle.tc_top.specs.Checking.{most_rows}
 use Rattle.tc_decide.specs.Checking.{IsWithinTripleLimits, HasFewRows, AreRowCounts, IsLeastCounter, HasSmallCounter, HasLargeCounters}
 use Rattle.tc_top.specs.Headline.{IsCutShort, ChecksFiles, ChecksShortFiles, ShowsCounterexample, shows_both, shows_document, ShowsRun, shows_result, shows_large, IsLimited, limited_before_rows, limited_in_rows, limited_in_nodes, DecidesSafety, ValidatesFiles, DecidesValidity, RunsFiles, GivesResult}
-use Rattle.tc_answer.specs.Answers.{Answer, usage, cannot_read, file_limit, safe, unsafe, unsafe_large, rows_limit, counterexample_limit, certificate, certificate_limit, accepted, rejected, included, not_included, equal, first_only, second_only, refused, over_limit, is_valid, is_invalid, tag_limit, names_limit, has_result, work_limit, open_limit, status_of, text_of}
+use Rattle.tc_answer.specs.Answers.{Answer, usage, cannot_read, file_limit, safe, unsafe, unsafe_large, rows_limit, counterexample_limit, certificate, certificate_limit, accepted, rejected, included, not_included, equal, first_only, second_only, spots, refused, over_limit, is_valid, is_invalid, tag_limit, names_limit, has_result, work_limit, open_limit, status_of, text_of}
 use Rattle.tc_top.specs.Answers.{IsAnswerTo, checked, ran, validated, shown, IsAnswer, Ends, KeepsToLimits}
 use Rattle.tc_top.specs.Causes.{Finds, passes_before_rows, passes_rows, finds_safe, finds_unsafe, finds_large, finds_none_small, Runs, sheet_passes, too_much_work, too_open, gives_result, Checks, Validates, RunsTexts}
 use Rattle.tc_top.specs.AnswersSeen.{IsRightFor}
@@ -59,6 +59,7 @@ cut_short status (not_included document) e h = absurd h
 cut_short status equal e h = absurd h
 cut_short status (first_only document) e h = absurd h
 cut_short status (second_only document) e h = absurd h
+cut_short status (spots told) e h = absurd h
 cut_short status (refused name reason place) e h = absurd h
 cut_short status (over_limit kind number) e h = absurd h
 cut_short status is_valid e h = absurd h
@@ -88,7 +89,7 @@ pub at_told : {told other : Option Files} (rose : Type 0) (reads : List Read) �
 at_told {told} {other} rose reads same true = subst (λ t. AreTrue t rose reads) same true
 
 -- one that can be shown isn't nested deeper than a text may be, so it is read back
-deep_within : (t : Trees) → nesting t ≤ node_count t
+pub deep_within : (t : Trees) → nesting t ≤ node_count t
 deep_within none = omega arith
 deep_within (text s rest) = omega (arith, deep_within rest)
 deep_within (element n kids rest) = grind (arith, deep_within kids, deep_within rest)

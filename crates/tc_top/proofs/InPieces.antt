@@ -1,11 +1,12 @@
 -- The parts of a schema by which a document in pieces is validated, and what is told of such a document.
 use Rattle.std.proofs.Common.{◌≡◌, ◌≤◌, ◌↔◌, ◌+◌, ◌++◌, ◌∙◌, sym, ap, subst, arith, Bool, true, false, IsTrue, ℕ, List, [], ◌∷◌, length, length-append, append_assoc, append-nil}
 use Rattle.std.proofs.lemmas.Bool.{true≢false}
-use Rattle.tc_answer.specs.Answers.{Answer, refused, tag_limit, names_limit, is_valid, is_invalid}
+use Rattle.tc_answer.specs.Answers.{Answer, over_limit, refused, tag_limit, names_limit, is_valid, is_invalid}
 use Rattle.tc_answer.specs.AnswersSeen.{Says}
 use Rattle.tc_answer.specs.declared.answer.Answer.{Answer as Said}
 use Rattle.tc_auto.specs.Stands as a
 use Rattle.tc_auto.specs.declared.auto.Auto.{Auto}
+use Rattle.tc_base.specs.declared.Limit.{Limit}
 use Rattle.tc_base.specs.declared.Place.{Place}
 use Rattle.tc_base.specs.declared.limits.TheConstants.{MOST_INPUT_STATES}
 use Rattle.tc_base.specs.declared.reasons.Why.{Why}
@@ -43,6 +44,10 @@ is_parts x s spelled read within automaton symbols stands same few = record {
 -- the automaton has as many states as a schema may have
 pub few_states : (x : Grammar) (parts : SchemaParts) → IsSchemaParts x parts → a.states parts.automaton ≤ 512
 few_states x parts is = subst (λ n. n ≤ 512) (sym (is.automaton.built.counted ∙ (state_counts_agree x).0)) is.within_limits.schema.states
+
+-- an answer says the same of equal parts
+pub says_limit : {said : Said} {kind other : Limit} {number count : ℕ} → kind ≡ other → number ≡ count → Says said (over_limit kind number) → Says said (over_limit other count)
+says_limit {said} {kind} {other} {number} {count} p q h = subst (λ k. Says said (over_limit k count)) p (subst (λ n. Says said (over_limit kind n)) q h)
 
 -- a piece more
 

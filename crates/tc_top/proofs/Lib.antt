@@ -1,5 +1,4 @@
 pub mod FewRows
-pub mod Nothing
 pub mod CutShort
 pub mod DemoSizes
 pub mod OneRefusal
@@ -7,7 +6,6 @@ pub mod SchemaTextLaws
 pub mod OneValidity
 pub mod OneRun
 pub mod Checked
-pub mod Compared
 pub mod OneCheck
 pub mod OneComparison
 pub mod OneInPieces
@@ -21,8 +19,11 @@ pub mod FilesInPieces
 pub mod RejectedAlike
 pub mod OneCertifying
 pub mod CertifiedTexts
-pub mod Decided
 pub mod Unaccepted
 pub mod TextsDecided
 pub mod CertifiedExact
 pub mod CertifyingCalls
+pub mod OneSpots
+pub mod SpotsFound
+pub mod SpotsExact
+pub mod Decided

@@ -1,7 +1,7 @@
 -- Words and files have one answer, but for what is left open.
 use Rattle.std.proofs.Common.{inl, inr}
 use Rattle.tc_io.specs.Faults.{Rose}
-use Rattle.tc_answer.specs.Answers.{Answer, usage, cannot_read, file_limit, safe, unsafe, unsafe_large, rows_limit, counterexample_limit, certificate, certificate_limit, accepted, rejected, included, not_included, equal, first_only, second_only, refused, over_limit, is_valid, is_invalid, tag_limit, names_limit, has_result, work_limit, open_limit}
+use Rattle.tc_answer.specs.Answers.{Answer, usage, cannot_read, file_limit, safe, unsafe, unsafe_large, rows_limit, counterexample_limit, certificate, certificate_limit, accepted, rejected, included, not_included, equal, first_only, second_only, spots, refused, over_limit, is_valid, is_invalid, tag_limit, names_limit, has_result, work_limit, open_limit}
 use Rattle.tc_top.specs.OneAnswer.{AreAlike, IsOfFault, HasOneAnswer, HasOneAnswerOn, HasAnswerOfCall}
 use Rattle.tc_top.proofs.Exact.{Agrees, by_reads, exact}
 
@@ -23,6 +23,7 @@ no_fault (not_included document) h = h
 no_fault equal h = h
 no_fault (first_only document) h = h
 no_fault (second_only document) h = h
+no_fault (spots told) h = h
 no_fault (refused name reason place) h = h
 no_fault (over_limit kind number) h = h
 no_fault is_valid h = h

@@ -1,32 +1,27 @@
 -- What texts decide of certificates is one.
 use Rattle.std.proofs.Common.{◌≡◌, ◌≤◌, ℕ, List, refl, sym, ap, ◌∙◌, subst, length, arith}
-use Rattle.tc_answer.specs.Answers.{Answer, certificate, accepted, rejected, status_of}
-use Rattle.tc_answer.specs.Lines.{Rejection, form_fails}
-use Rattle.tc_decide.specs.declared.limits.TheConstants.{LONGEST_CERTIFICATE}
+use Rattle.tc_answer.specs.Answers.{Answer, certificate, rejected, status_of}
 use Rattle.tc_answer.specs.declared.status.Status.TheVariants.{Yes}
 use Rattle.tc_base.specs.declared.limits.TheConstants.{LONGEST_FILE}
-use Rattle.tc_cert.specs.Fronts.{IsFirstFault}
-use Rattle.tc_cert.specs.Texts.{text, by_changes, CertificateText}
+use Rattle.tc_cert.specs.Texts.{text, by_changes}
 use Rattle.tc_cert.proofs.Fronts.{one_fault, no_fault}
 use Rattle.tc_cert.proofs.FirstFaults.{one_data}
-use Rattle.tc_close.proofs.Agreeing.{are_alike, triples_agree}
-use Rattle.tc_close.proofs.ArithmeticAlike.{certificate_alike}
-use Rattle.tc_close.proofs.OneCertificate.{one_certificate}
-use Rattle.tc_close.proofs.TooLong.{text_is_long}
+use Rattle.tc_close.proofs.Agreeing.{are_alike}
 use Rattle.tc_close.proofs.Transport.{AreAlike as TriplesAlike}
 use Rattle.tc_model.specs.Grammars.{Grammar}
 use Rattle.tc_model.specs.Safety.{IsSafe}
 use Rattle.tc_model.specs.Sheets.{Sheet}
 use Rattle.tc_model.specs.declared.lists.CertData.{CertData}
-use Rattle.tc_rows.specs.CertificateRows.{IsCertificateData}
-use Rattle.tc_rows.specs.Triples.{Triple}
 use Rattle.tc_verify.specs.Rejects.{IsRejected}
 use Rattle.tc_verify.specs.declared.reject.Reject.{Reject}
 use Rattle.tc_top.specs.Causes.{Finds, passes_before_rows, passes_rows, finds_safe, finds_unsafe, finds_large, finds_none_small, OfTexts}
-use Rattle.tc_top.specs.Certifying.{told, told_by, IsCertificateOf, IsLeastOf, IsRejectedFor, IsOverlong, long_text, long_outputs, Certifies, as_checked, certifies, overlong, Accepts, stops_before_rows, accepts, no_text, no_certificate, Upgrades, upgrades, too_long, no_form}
+use Rattle.tc_top.specs.Certifying.{Certifies, as_checked, certifies, overlong, Accepts, stops_before_rows, accepts, no_text, no_certificate, Upgrades, upgrades, too_long, no_form}
+use Rattle.tc_decide.specs.Rejections.{Rejection, form_fails, told, told_by, IsRejectedFor}
 use Rattle.tc_decide.specs.Checking.{IsWithinTripleLimits, HasFewRows}
 use Rattle.tc_top.specs.OneAnswer.{AreAlike, same_answer}
 use Rattle.tc_decide.proofs.Passing.{over_triple}
+use Rattle.tc_decide.proofs.Proving.{one_least, short_overlong}
+use Rattle.tc_decide.proofs.Verifications.{accepted_rejected}
 use Rattle.tc_top.proofs.OneCheck.{one_triple_limit, finds_one, texts_one}
 use Rattle.tc_decide.proofs.Deciding.{not_both}
 use Rattle.tc_top.proofs.RejectedAlike.{rejected_alike, one_rejected}
@@ -44,14 +39,6 @@ only_yes {i} {o} {s} (finds_large v f l k) w few safe = absurd (not_both i o s s
 only_yes {i} {o} {s} (finds_none_small v f l) w few safe = absurd (not_both i o s safe l.some.1)
 
 module _ {i o : Grammar} {s : Sheet} where
-  pub one_least : (d e : CertData) → IsLeastOf i o s d → IsLeastOf i o s e → d ≡ e
-  one_least d e (x, a, l) (y, b, m) = one_certificate x y (triples_agree i o s x y a b) d e l m
-
-  -- what is too long has no shorter text
-  pub short_overlong : (d : CertData) → IsLeastOf i o s d → length (text by_changes d) ≤ LONGEST_CERTIFICATE → IsOverlong i o s → ⊥
-  short_overlong d l short (long_text {d = e} m long) = let same = ap (λ (c : CertData). length (text by_changes c)) (one_least d e l m) in omega (arith, same, short, long)
-  short_overlong d (y, b, l) short (long_outputs {x} a long) = let more = text_is_long x y (triples_agree i o s x y a b) long d l in omega (arith, more, short)
-
   pub certifies_one : {most : ℕ} {one other : Answer} → Certifies i o s most one → Certifies i o s most other → AreAlike one other
   certifies_one (as_checked f n) (as_checked g m) = finds_one f g
   certifies_one (as_checked f n) (certifies w few safe l short) = absurd (n (only_yes f w few safe))
@@ -63,11 +50,6 @@ module _ {i o : Grammar} {s : Sheet} where
   certifies_one (overlong w few safe long) (certifies {d} v g h m short) = absurd (short_overlong d m short long)
   certifies_one (overlong w few safe l) (overlong v g h m) = same_answer
 
-  pub accepted_rejected : (bytes : List ℕ) → length bytes ≤ LONGEST_FILE → (d e : CertData) (why : Rejection) → CertificateText bytes d → CertificateText bytes e → IsCertificateOf i o s d → IsRejectedFor i o s e why → ⊥
-  accepted_rejected bytes h d e why p q (x, a, c) (y, reject, b, k, same) =
-      let alike : TriplesAlike x y = are_alike i o s x y a b in
-      k.none (certificate_alike x y alike e (subst (IsCertificateData x) (one_data bytes h d e p q) c))
-
   one_why : (d e : CertData) (why other : Rejection) → d ≡ e → IsRejectedFor i o s d why → IsRejectedFor i o s e other → why ≡ other
   one_why d e why other same (x, p, a, k, f) (y, q, b, m, g) =
       let alike : TriplesAlike x y = are_alike i o s x y a b in
@@ -77,19 +59,19 @@ module _ {i o : Grammar} {s : Sheet} where
 
   pub accepts_one : {bytes : List ℕ} {one other : Answer} → length bytes ≤ LONGEST_FILE → Accepts i o s bytes one → Accepts i o s bytes other → AreAlike one other
   accepts_one h (stops_before_rows p) (stops_before_rows q) = one_triple_limit p q
-  accepts_one h (stops_before_rows p) (accepts w t c) = absurd (over_triple p w)
+  accepts_one h (stops_before_rows p) (accepts w t c safe) = absurd (over_triple p w)
   accepts_one h (stops_before_rows p) (no_text w f) = absurd (over_triple p w)
   accepts_one h (stops_before_rows p) (no_certificate w t r) = absurd (over_triple p w)
-  accepts_one h (accepts w t c) (stops_before_rows p) = absurd (over_triple p w)
-  accepts_one h (accepts w t c) (accepts v u e) = same_answer
-  accepts_one {bytes} h (accepts {d} w t c) (no_text {line} v f) = absurd (no_fault bytes d line t f)
-  accepts_one {bytes} h (accepts {d} w t c) (no_certificate {d = e} {why} v u r) = absurd (accepted_rejected bytes h d e why t u c r)
+  accepts_one h (accepts w t c safe) (stops_before_rows p) = absurd (over_triple p w)
+  accepts_one h (accepts w t c safe) (accepts v u e other) = same_answer
+  accepts_one {bytes} h (accepts {d} w t c safe) (no_text {line} v f) = absurd (no_fault bytes d line t f)
+  accepts_one {bytes} h (accepts {d} w t c safe) (no_certificate {d = e} {why} v u r) = absurd (accepted_rejected bytes h d e why t u c r)
   accepts_one h (no_text w f) (stops_before_rows p) = absurd (over_triple p w)
-  accepts_one {bytes} h (no_text {line} w f) (accepts {d} v t c) = absurd (no_fault bytes d line t f)
+  accepts_one {bytes} h (no_text {line} w f) (accepts {d} v t c safe) = absurd (no_fault bytes d line t f)
   accepts_one {bytes} h (no_text {line} w f) (no_text {line = other} v g) = same_as (ap (λ n. rejected (form_fails n)) (one_fault bytes line other f g))
   accepts_one {bytes} h (no_text {line} w f) (no_certificate {d} v t r) = absurd (no_fault bytes d line t f)
   accepts_one h (no_certificate w t r) (stops_before_rows p) = absurd (over_triple p w)
-  accepts_one {bytes} h (no_certificate {d} {why} w t r) (accepts {d = e} v u c) = absurd (accepted_rejected bytes h e d why u t c r)
+  accepts_one {bytes} h (no_certificate {d} {why} w t r) (accepts {d = e} v u c safe) = absurd (accepted_rejected bytes h e d why u t c r)
   accepts_one {bytes} h (no_certificate {d} w t r) (no_text {line} v f) = absurd (no_fault bytes d line t f)
   accepts_one {bytes} h (no_certificate {d} {why} w t r) (no_certificate {d = e} {why = other} v u q) = same_as (ap rejected (one_why d e why other (one_data bytes h d e t u) r q))
 

@@ -3,31 +3,21 @@ use Rattle.std.proofs.Common.{◌≡◌, inl, inr, subst, ℕ, List, arith}
 use Rattle.tc_answer.specs.Answers.{Answer, included, over_limit}
 use Rattle.tc_base.specs.declared.Limit.{Limit}
 use Rattle.tc_incl.specs.Counts.{IsRowOfLiveTree, IsRowOfLiveHedge}
-use Rattle.tc_incl.specs.Schemas.{IsIncluded, IsDifference}
 use Rattle.tc_model.specs.Grammars.{Grammar}
-use Rattle.tc_model.specs.Trees.{Trees}
-use Rattle.tc_rows.specs.Counts.{Counts}
 use Rattle.tc_rows.proofs.Counting.{counts_tell}
-use Rattle.tc_top.specs.Comparing.{Question, inclusion, equality, AreWithinPairLimits, PassesPairLimit, by_first, by_second, by_symbols, forward, backward, IsOfOne, FindsInclusion, inclusion_passes, inclusion_covers, finds_included, finds_not_included, finds_none_shown, FindsEquality, equality_passes, equality_covers_forward, equality_covers_backward, finds_equal, finds_first_only, finds_second_only, finds_no_one_shown, FindsBoth, Compares, first_refused, second_refused, both_schemas}
+use Rattle.tc_decide.specs.Comparing.{Question, inclusion, equality, PassesPairLimit, by_first, by_second, by_symbols, forward}
+use Rattle.tc_top.specs.Comparing.{FindsInclusion, inclusion_passes, inclusion_covers, finds_included, finds_not_included, finds_none_shown, FindsEquality, equality_passes, equality_covers_forward, equality_covers_backward, finds_equal, finds_first_only, finds_second_only, finds_no_one_shown, FindsBoth, Compares, first_refused, second_refused, both_schemas}
 use Rattle.tc_top.specs.OneAnswer.{AreAlike, same_answer, documents_not_included, documents_of_first, documents_of_second, row_limits}
 use Rattle.tc_top.specs.SchemaTexts.{SchemaText}
+use Rattle.tc_decide.proofs.Compared.{not_different, over_pair, equal_not_of_one}
 use Rattle.tc_decide.proofs.Passing.{over_schema as over}
 use Rattle.tc_top.proofs.OneValidity.{one_limit}
 use Rattle.tc_top.proofs.SchemaTextLaws.{no_schema, one_schema, text_refusals}
-
--- a schema that is included in another has no document that isn't valid for that
-pub not_different : {a b : Grammar} {document : Trees} → IsIncluded a b → IsDifference a b document → ⊥
-not_different {document = document} i d = d.1 (i document d.0)
 
 included_alike : {t u h k : ℕ} → t ≡ u → h ≡ k → AreAlike (included t h) (included u k)
 included_alike {t} {u} {h} {k} p q = subst (λ n. AreAlike (included t h) (included n k)) p (subst (λ n. AreAlike (included t h) (included t n)) q same_answer)
 
 module _ {a b : Grammar} where
-  pub over_pair : {kind : Limit} {number : ℕ} → PassesPairLimit a b kind number → AreWithinPairLimits a b → ⊥
-  over_pair (by_first p) w = over p w.first
-  over_pair (by_second v p) w = over p w.second
-  over_pair (by_symbols v x p) w = omega (arith, p, w.few)
-
   -- the first limit that is passed is one
   pub one_pair_limit : {kind other : Limit} {number count : ℕ} → PassesPairLimit a b kind number → PassesPairLimit a b other count → AreAlike (over_limit kind number) (over_limit other count)
   one_pair_limit (by_first p) (by_first q) = one_limit p q
@@ -39,11 +29,6 @@ module _ {a b : Grammar} where
   one_pair_limit (by_symbols v x p) (by_first q) = absurd (over q v)
   one_pair_limit (by_symbols v x p) (by_second w q) = absurd (over q x)
   one_pair_limit (by_symbols v x p) (by_symbols w y q) = same_answer
-
-  -- a document that both schemas have no use for
-  pub equal_not_of_one : {document : Trees} → IsIncluded a b → IsIncluded b a → IsOfOne a b document → ⊥
-  equal_not_of_one i j (inl d) = not_different i d
-  equal_not_of_one i j (inr d) = not_different j d
 
   inclusion_one : {one other : Answer} → FindsInclusion a b one → FindsInclusion a b other → AreAlike one other
   inclusion_one (inclusion_passes p1) (inclusion_passes p2) = one_pair_limit p1 p2

@@ -1,5 +1,5 @@
 -- The answer of a call, with its cause, and how the call ends.
-use Rattle.std.specs.Prelude.{◌≡◌, ◌≤◌, ◌↔◌, ℕ, List, length, [], ◌∷◌, Option, Some, Ok}
+use Rattle.std.specs.Prelude.{◌≡◌, ◌≤◌, ◌↔◌, ℕ, List, length, [], ◌∷◌, Option, Some}
 use Rattle.tc_io.specs.Store.{Files, Read, longest_file}
 use Rattle.tc_io.specs.Reads.{AreTrue}
 use Rattle.tc_io.specs.Sink.{Appended, WroteFront}
@@ -10,7 +10,7 @@ use Rattle.tc_model.specs.Sheets.{Sheet}
 use Rattle.tc_top.specs.Checking.{most_rows}
 use Rattle.tc_decide.specs.declared.limits.TheConstants.{MOST_ROWS}
 use Rattle.tc_top.specs.Demo.{demo_schema, demo_sheet, input_name, output_name, sheet_name}
-use Rattle.tc_answer.specs.Words.{Command, check, prove, verify, run, valid, valid_in_pieces, demo, upgrade, include, same, Words, IsNoCommand, operands_of}
+use Rattle.tc_answer.specs.Words.{Command, check, prove, verify, run, valid, valid_in_pieces, demo, upgrade, dead, include, same, Words, IsNoCommand, operands_of}
 use Rattle.tc_decide.specs.Limits.{IsRunWithin}
 use Rattle.tc_answer.specs.Reading.{StopsAt, IsUnreadable, AreRead}
 use Rattle.tc_answer.specs.declared.status.Status.{Status}
@@ -19,7 +19,9 @@ use Rattle.tc_answer.specs.Answers.{Answer, usage, cannot_read, file_limit, stat
 use Rattle.tc_top.specs.Causes.{Checks, Validates, Runs, RunsTexts}
 use Rattle.tc_top.specs.Certifying.{Proves, Verifies, Upgrades}
 use Rattle.tc_top.specs.InPieces.{ValidatesInPieces}
-use Rattle.tc_top.specs.Comparing.{Compares, inclusion, equality}
+use Rattle.tc_decide.specs.Comparing.{inclusion, equality}
+use Rattle.tc_top.specs.Comparing.{Compares}
+use Rattle.tc_top.specs.DeadSpots.{TellsDead}
 
 -- words of no command, and of a command that reads no file
 abbrev pub ReadsNothing : List (List ℕ) → Type 0
@@ -42,6 +44,8 @@ pub data IsAnswerTo : Command → List (List ℕ) → Answer → Type 0 where
   shown : {size : ℕ} {answer : Answer} → Checks MOST_ROWS input_name output_name sheet_name (demo_schema size) (demo_schema size) demo_sheet answer
       → IsAnswerTo (demo size) [] answer
   upgraded : {certificate bytes : List ℕ} {answer : Answer} → length bytes ≤ longest_file → Upgrades bytes answer → IsAnswerTo (upgrade certificate) (bytes ∷ []) answer
+  told_dead : {input sheet input_text sheet_text : List ℕ} {answer : Answer} → TellsDead input sheet input_text sheet_text answer
+      → IsAnswerTo (dead input sheet) (input_text ∷ sheet_text ∷ []) answer
   compared_one_way : {first second first_text second_text : List ℕ} {answer : Answer} → Compares inclusion first second first_text second_text answer
       → IsAnswerTo (include first second) (first_text ∷ second_text ∷ []) answer
   compared_both_ways : {first second first_text second_text : List ℕ} {answer : Answer} → Compares equality first second first_text second_text answer

@@ -1,6 +1,6 @@
 -- What `prove`, `verify` and `upgrade` of held files decide.
 use Rattle.std.specs.Prelude.{◌≡◌, ◌<◌, ◌≤◌, ◌⊎◌, ◌↔◌, ℕ, List, length, Option, Some, codes}
-use Rattle.tc_answer.specs.Lines.{Rejection, form_fails, line, limit_line, limit_word, count_word, rejected_line}
+use Rattle.tc_answer.specs.Lines.{line, limit_line, limit_word, count_word, rejected_line}
 use Rattle.tc_decide.specs.RowCounts.{RowCount}
 use Rattle.tc_answer.specs.SchemaWords.{file_of}
 use Rattle.tc_answer.specs.Words.{prove, verify, upgrade, Words}
@@ -22,7 +22,9 @@ use Rattle.tc_print.specs.ReadBack.{IsReadAs}
 use Rattle.tc_read.specs.Sheets.{IsSheetOf}
 use Rattle.tc_top.specs.Answers.{IsAnswerOn}
 use Rattle.tc_answer.specs.Answers.{certificate, accepted}
-use Rattle.tc_top.specs.Certifying.{IsCertificateOf, IsLeastOf, IsOverlong, IsRejectedFor}
+use Rattle.tc_decide.specs.Certificates.{IsLeastOf, IsOverlong, HasShortCertificate}
+use Rattle.tc_decide.specs.Rejections.{Rejection, form_fails, IsRejectionOf}
+use Rattle.tc_decide.specs.Verified.{IsCertificateText}
 use Rattle.tc_decide.specs.Checking.{most_of, IsWithinTripleLimits, PassesTripleLimit, HasManyRows, HasFewRows, IsLeastCounter, HasSmallCounter, HasLargeCounters}
 use Rattle.tc_top.specs.SchemaTexts.{SchemaText}
 use Rattle.tc_top.specs.Headline.{IsLimited, ShowsRun}
@@ -79,13 +81,9 @@ pub record UpgradesFiles (words : List (List ℕ)) (files : Files) (bytes : List
   pub certificate_short : length bytes ≤ longest_file
 
 module _ (i o : Grammar) (s : Sheet) where
-  -- the certificate with exactly the rows of what is live isn't too long
-  abbrev pub HasShortCertificate : Type 0
-  HasShortCertificate = (d : CertData) × IsLeastOf i o s d × (length (text by_changes d) ≤ LONGEST_CERTIFICATE)
-
   -- as a check, but that where it is yes there is a certificate that isn't too long, which is written
   pub record DecidesProof (status : Status) (old new : Option (List ℕ)) (most : ℕ) : Type 0 where
-    pub yes : (status ≡ Yes) ↔ (IsWithinTripleLimits i o s × HasFewRows i o s most × IsSafe i o s × HasShortCertificate)
+    pub yes : (status ≡ Yes) ↔ (IsWithinTripleLimits i o s × HasFewRows i o s most × IsSafe i o s × HasShortCertificate i o s)
     pub no : (status ≡ No) ↔ (IsWithinTripleLimits i o s × HasFewRows i o s most × HasSmallCounter i o s)
     pub limit : (status ≡ Limit) ↔ (IsLimited most i o s ⊎ (IsWithinTripleLimits i o s × HasFewRows i o s most × IsSafe i o s × IsOverlong i o s))
     pub one : (status ≡ Yes) ⊎ ((status ≡ No) ⊎ (status ≡ Limit))
@@ -97,24 +95,15 @@ module _ (i o : Grammar) (s : Sheet) where
     pub nodes_text : IsWithinTripleLimits i o s → HasFewRows i o s most → HasLargeCounters i o s → Appended old new (limit_line (codes "counterexample") MOST_SHOWN_NODES)
     pub overlong_text : IsWithinTripleLimits i o s → HasFewRows i o s most → IsSafe i o s → IsOverlong i o s → Appended old new (limit_line (codes "certificate") LONGEST_CERTIFICATE)
 
-  -- the bytes are the text of a certificate of safety
-  abbrev pub IsCertificateText : List ℕ → Type 0
-  IsCertificateText bytes = (d : CertData) × CertificateText bytes d × IsCertificateOf i o s d
-
-  -- why they aren't: a line of the text isn't as it must be, or a rule fails
-  pub data IsRejectionOf (bytes : List ℕ) : Rejection → Type 0 where
-    of_form : {line_number : ℕ} → IsFirstFault bytes line_number → IsRejectionOf bytes (form_fails line_number)
-    of_rule : {d : CertData} {why : Rejection} → CertificateText bytes d → IsRejectedFor i o s d why → IsRejectionOf bytes why
-
   -- yes exactly where no limit is passed that is tried before rows are, and the bytes are the text of a certificate of safety; no exactly where
   -- none is passed and they aren't; and else the limit
   pub record DecidesCertificate (status : Status) (old new : Option (List ℕ)) (bytes : List ℕ) : Type 0 where
-    pub yes : (status ≡ Yes) ↔ (IsWithinTripleLimits i o s × IsCertificateText bytes)
-    pub no : (status ≡ No) ↔ (IsWithinTripleLimits i o s × ¬ (IsCertificateText bytes))
+    pub yes : (status ≡ Yes) ↔ (IsWithinTripleLimits i o s × IsCertificateText i o s bytes)
+    pub no : (status ≡ No) ↔ (IsWithinTripleLimits i o s × ¬ (IsCertificateText i o s bytes))
     pub limit : (status ≡ Limit) ↔ ((kind : kinds.Limit) × (number : ℕ) × PassesTripleLimit i o s kind number)
     pub one : (status ≡ Yes) ⊎ ((status ≡ No) ⊎ (status ≡ Limit))
     pub yes_text : status ≡ Yes → Appended old new (line (codes "accepted"))
-    pub no_text : status ≡ No → (why : Rejection) × IsRejectionOf bytes why × Appended old new (rejected_line why)
+    pub no_text : status ≡ No → (why : Rejection) × IsRejectionOf i o s bytes why × Appended old new (rejected_line why)
     pub before_rows_text : (kind : kinds.Limit) (number : ℕ) → PassesTripleLimit i o s kind number → Appended old new (limit_line (limit_word kind) number)
 
 -- yes exactly where the bytes are a certificate's text whose data is written by changes within the limit, and so it is; no exactly where they are

@@ -1,74 +1,36 @@
 -- Certificates: what `prove`, `verify` and `upgrade` answer on the texts of their operands, each answer with its cause.
 use Rattle.std.specs.Prelude.{◌≡◌, ◌<◌, ◌≤◌, ℕ, List, length}
 use Rattle.tc_answer.specs.Answers.{Answer, certificate, certificate_limit, accepted, rejected, over_limit, status_of}
-use Rattle.tc_answer.specs.Lines.{Rejection, form_fails, fit_fails, empty_fails, text_fails, append_fails, wrap_fails, root_fails}
 use Rattle.tc_decide.specs.declared.limits.TheConstants.{LONGEST_CERTIFICATE}
 use Rattle.tc_answer.specs.declared.status.Status.TheVariants.{Yes}
 use Rattle.tc_base.specs.declared.Limit as kinds
 use Rattle.tc_cert.specs.Fronts.{IsFirstFault}
 use Rattle.tc_cert.specs.Texts.{text, by_changes, CertificateText}
-use Rattle.tc_close.specs.Certified.{IsLeastCertificate, IsTooLong}
-use Rattle.tc_close.specs.Triples.{IsTripleOf}
 use Rattle.tc_model.specs.Grammars.{Grammar}
 use Rattle.tc_model.specs.Safety.{IsSafe}
 use Rattle.tc_model.specs.Sheets.{Sheet}
-use Rattle.tc_model.specs.Symbols.{Mention, fresh_name}
 use Rattle.tc_model.specs.declared.lists.CertData.{CertData}
-use Rattle.tc_rows.specs.CertificateRows.{IsCertificateData}
-use Rattle.tc_rows.specs.Triples.{Triple}
 use Rattle.tc_top.specs.Causes.{Finds, OfTexts}
+use Rattle.tc_decide.specs.Certificates.{IsCertificateOf, IsLeastOf, IsOverlong}
 use Rattle.tc_decide.specs.Checking.{IsWithinTripleLimits, PassesTripleLimit, HasFewRows}
-use Rattle.tc_verify.specs.Rejects.{IsRejected}
-use Rattle.tc_verify.specs.declared.reject.Reject.{Reject}
-use Rattle.tc_verify.specs.declared.reject.RejectRule.{RejectRule}
-use Rattle.tc_verify.specs.declared.reject.RejectRule.TheVariants as rule
-
--- a rule that fails, as it is told: a symbol by the name that stands for it
-abbrev pub told_by : List Mention → RejectRule → ℕ → ℕ → Rejection
-told_by symbols rule.Form line other = form_fails line
-told_by symbols rule.Fit line other = fit_fails line
-told_by symbols rule.Empty line other = empty_fails
-told_by symbols rule.Text line other = text_fails
-told_by symbols rule.Append line other = append_fails line other
-told_by symbols rule.Wrap line other = wrap_fails line (fresh_name symbols other)
-told_by symbols rule.Root line other = root_fails line
-
-abbrev pub told : Triple → RejectRule → ℕ → ℕ → Rejection
-told x r line other = told_by x.symbols r line other
+use Rattle.tc_decide.specs.Rejections.{Rejection, form_fails, IsRejectedFor}
 
 module _ (i o : Grammar) (s : Sheet) where
   -- Well-formed schemas and a well-formed stylesheet within the limits of the stylesheet have a triple, and all of theirs have the same rows: law_of_triples of tc_close.
 
-  -- the data is that of a certificate of safety
-  abbrev pub IsCertificateOf : CertData → Type 0
-  IsCertificateOf d = (x : Triple) × IsTripleOf i o s x × IsCertificateData x d
-
-  -- and it has exactly the rows of live trees and of live lists of trees, and exactly the sets of pairs in them
-  abbrev pub IsLeastOf : CertData → Type 0
-  IsLeastOf d = (x : Triple) × IsTripleOf i o s x × IsLeastCertificate x d
-
-  -- the text of this certificate has more bytes than a certificate may have; or, where it isn't made, the lines of its sets of pairs alone have
-  pub data IsOverlong : Type 0 where
-    long_text : {d : CertData} → IsLeastOf d → LONGEST_CERTIFICATE < length (text by_changes d) → IsOverlong
-    long_outputs : {x : Triple} → IsTripleOf i o s x → IsTooLong x → IsOverlong
-
-  -- it isn't, and this is the first rule that fails
-  abbrev pub IsRejectedFor : CertData → Rejection → Type 0
-  IsRejectedFor d why = (x : Triple) × (reject : Reject) × IsTripleOf i o s x × IsRejected x d reject × (why ≡ told x reject.rule reject.line reject.other)
-
   -- what `prove` decides, with so many rows of trees and of lists of trees at most: the certificate where it is safe, and else what `check` does
   pub data Certifies (most : ℕ) : Answer → Type 0 where
     as_checked : {answer : Answer} → Finds most i o s answer → ¬ (status_of answer ≡ Yes) → Certifies most answer
-    certifies : {d : CertData} → IsWithinTripleLimits i o s → HasFewRows i o s most → IsSafe i o s → IsLeastOf d → length (text by_changes d) ≤ LONGEST_CERTIFICATE
+    certifies : {d : CertData} → IsWithinTripleLimits i o s → HasFewRows i o s most → IsSafe i o s → IsLeastOf i o s d → length (text by_changes d) ≤ LONGEST_CERTIFICATE
         → Certifies most (certificate (text by_changes d))
-    overlong : IsWithinTripleLimits i o s → HasFewRows i o s most → IsSafe i o s → IsOverlong → Certifies most certificate_limit
+    overlong : IsWithinTripleLimits i o s → HasFewRows i o s most → IsSafe i o s → IsOverlong i o s → Certifies most certificate_limit
 
   -- what `verify` decides of a certificate's bytes. No limit on rows is tried
   pub data Accepts (bytes : List ℕ) : Answer → Type 0 where
     stops_before_rows : {kind : kinds.Limit} {number : ℕ} → PassesTripleLimit i o s kind number → Accepts bytes (over_limit kind number)
-    accepts : {d : CertData} → IsWithinTripleLimits i o s → CertificateText bytes d → IsCertificateOf d → Accepts bytes accepted
+    accepts : {d : CertData} → IsWithinTripleLimits i o s → CertificateText bytes d → IsCertificateOf i o s d → IsSafe i o s → Accepts bytes accepted
     no_text : {line : ℕ} → IsWithinTripleLimits i o s → IsFirstFault bytes line → Accepts bytes (rejected (form_fails line))
-    no_certificate : {d : CertData} {why : Rejection} → IsWithinTripleLimits i o s → CertificateText bytes d → IsRejectedFor d why → Accepts bytes (rejected why)
+    no_certificate : {d : CertData} {why : Rejection} → IsWithinTripleLimits i o s → CertificateText bytes d → IsRejectedFor i o s d why → Accepts bytes (rejected why)
 
 -- what `prove` answers on the texts of its operands
 abbrev pub Proves : ℕ → List ℕ → List ℕ → List ℕ → List ℕ → List ℕ → List ℕ → Answer → Type 0

@@ -9,7 +9,7 @@ use Rattle.tc_answer.specs.declared.status.Status.{Status}
 use Rattle.tc_answer.specs.declared.status.Status.TheVariants.{Yes, No, Limit}
 use Rattle.tc_base.specs.declared.Limit as kinds
 use Rattle.tc_incl.specs.Counts.{IsRowOfLiveTree, IsRowOfLiveHedge}
-use Rattle.tc_incl.specs.Schemas.{IsIncluded, IsDifference, IsLeastDifference}
+use Rattle.tc_incl.specs.Schemas.{IsDifference}
 use Rattle.tc_io.specs.Store.{Files, longest_file}
 use Rattle.tc_io.specs.Sink.{Appended}
 use Rattle.tc_model.specs.Grammars.{Grammar}
@@ -18,7 +18,7 @@ use Rattle.tc_model.specs.Trees.{Trees, node_count}
 use Rattle.tc_print.specs.ReadBack.{IsReadAs}
 use Rattle.tc_rows.specs.Counts.{Counts}
 use Rattle.tc_top.specs.SchemaTexts.{SchemaText}
-use Rattle.tc_top.specs.Comparing.{Question, inclusion, equality, HasManyCovers, HasFewCovers, AreWithinPairLimits, PassesPairLimit, forward, backward, IsShown, IsOfOne}
+use Rattle.tc_decide.specs.Comparing.{Question, inclusion, equality, AreWithinPairLimits, PassesPairLimit, forward, IsShown, AreKept, IsSo, HasSmallRefutation, HasLargeRefutations, IsLeastRefutation, AreTooMany}
 
 -- the words that ask this of two files
 abbrev pub asks : Question → List ℕ → List ℕ → Command
@@ -40,47 +40,11 @@ pub record ComparesFiles (words : List (List ℕ)) (files : Files) (question : Q
   pub second_spells : SchemaText second second_text b
 
 module _ (a b : Grammar) where
-  -- the counts that `include` tries are kept, and those that `same` tries
-  abbrev pub AreKept : Question → Type 0
-  AreKept inclusion = AreWithinPairLimits a b × HasFewCovers (forward a b)
-  AreKept equality = AreWithinPairLimits a b × HasFewCovers (forward a b) × HasFewCovers (backward a b)
-
-  -- the schemas are as is asked
-  abbrev pub IsSo : Question → Type 0
-  IsSo inclusion = IsIncluded a b
-  IsSo equality = IsIncluded a b × IsIncluded b a
-
-  -- a document shows that they aren't
-  abbrev pub Refutes : Question → Trees → Type 0
-  Refutes inclusion document = IsDifference a b document
-  Refutes equality document = IsOfOne a b document
-
-  module _ (question : Question) where
-    -- a document that refutes can be shown
-    abbrev pub HasSmallRefutation : Type 0
-    HasSmallRefutation = (document : Trees) × Refutes question document × (node_count document ≤ MOST_SHOWN_NODES)
-
-    -- there are documents that refute, and all have too many nodes to be shown
-    pub record HasLargeRefutations : Type 0 where
-      pub some : (document : Trees) × Refutes question document
-      pub large : (document : Trees) → Refutes question document → MOST_SHOWN_NODES < node_count document
-
-    -- it refutes, and none that does has fewer nodes
-    pub record IsLeastRefutation (document : Trees) : Type 0 where
-      pub refutes : Refutes question document
-      pub least : (other : Trees) → Refutes question other → node_count document ≤ node_count other
-
-  -- a direction that is asked for has too many rows, and those before it haven't
-  pub data AreTooMany : Question → RowCount → Type 0 where
-    in_inclusion : {count : RowCount} → HasManyCovers (forward a b) count → AreTooMany inclusion count
-    in_first : {count : RowCount} → HasManyCovers (forward a b) count → AreTooMany equality count
-    in_second : {count : RowCount} → HasFewCovers (forward a b) → HasManyCovers (backward a b) count → AreTooMany equality count
-
   -- a limit is told, which is passed while none is that is tried before it
   pub data IsLimited (question : Question) : Type 0 where
     limited_before_rows : {kind : kinds.Limit} {number : ℕ} → PassesPairLimit a b kind number → IsLimited question
-    limited_in_rows : (count : RowCount) → AreWithinPairLimits a b → AreTooMany question count → IsLimited question
-    limited_in_nodes : AreKept question → HasLargeRefutations question → IsLimited question
+    limited_in_rows : (count : RowCount) → AreWithinPairLimits a b → AreTooMany a b question count → IsLimited question
+    limited_in_nodes : AreKept a b question → HasLargeRefutations a b question → IsLimited question
 
   -- what is written where they are as is asked: the numbers of rows, or that they are the same
   abbrev pub ShowsSo : Question → Option (List ℕ) → Option (List ℕ) → Type 0
@@ -98,12 +62,12 @@ module _ (a b : Grammar) where
   -- yes exactly where no limit is passed and the schemas are as is asked; no exactly where none is passed and a document that can be shown refutes it,
   -- with one of the fewest nodes, which is read back; and else a limit that is passed
   pub record DecidesComparison (status : Status) (old new : Option (List ℕ)) (question : Question) : Type 0 where
-    pub yes : (status ≡ Yes) ↔ (AreKept question × IsSo question)
-    pub no : (status ≡ No) ↔ (AreKept question × HasSmallRefutation question)
+    pub yes : (status ≡ Yes) ↔ (AreKept a b question × IsSo a b question)
+    pub no : (status ≡ No) ↔ (AreKept a b question × HasSmallRefutation a b question)
     pub limit : (status ≡ Limit) ↔ IsLimited question
     pub one : (status ≡ Yes) ⊎ ((status ≡ No) ⊎ (status ≡ Limit))
     pub yes_text : status ≡ Yes → ShowsSo question old new
-    pub no_text : status ≡ No → (document : Trees) × IsLeastRefutation question document × IsShown a b document × IsReadAs (printed document) document × Shows old new document question
+    pub no_text : status ≡ No → (document : Trees) × IsLeastRefutation a b question document × IsShown a b document × IsReadAs (printed document) document × Shows old new document question
     pub before_rows_text : (kind : kinds.Limit) (number : ℕ) → PassesPairLimit a b kind number → Appended old new (limit_line (limit_word kind) number)
-    pub rows_text : (count : RowCount) → AreWithinPairLimits a b → AreTooMany question count → (named : RowCount) × AreTooMany question named × Appended old new (limit_line (count_word named) MOST_ROWS)
-    pub nodes_text : AreKept question → HasLargeRefutations question → Appended old new (limit_line (codes "counterexample") MOST_SHOWN_NODES)
+    pub rows_text : (count : RowCount) → AreWithinPairLimits a b → AreTooMany a b question count → (named : RowCount) × AreTooMany a b question named × Appended old new (limit_line (count_word named) MOST_ROWS)
+    pub nodes_text : AreKept a b question → HasLargeRefutations a b question → Appended old new (limit_line (codes "counterexample") MOST_SHOWN_NODES)

@@ -1,4 +1,3 @@
-pub mod Nothing
 pub mod SchemaTexts
 pub mod Checking
 pub mod Comparing
@@ -6,6 +5,8 @@ pub mod Pairs
 pub mod ComparedFiles
 pub mod InPieces
 pub mod FilesInPieces
+pub mod DeadSpots
+pub mod DeadFiles
 pub mod PiecesSeen
 pub mod Demo
 pub mod Causes
@@ -14,9 +15,8 @@ pub mod Answers
 pub mod AnswersSeen
 pub mod TextsSeen
 pub mod VerdictsSeen
+pub mod DeadSeen
 pub mod OneAnswer
 pub mod Program
 pub mod Certifying
-pub mod CertifyingSeen
-pub mod Tasks
 pub mod CertifiedFiles

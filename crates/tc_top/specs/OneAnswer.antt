@@ -1,5 +1,6 @@
 -- That an answer is the only one: what the causes exclude, and what they leave open.
-use Rattle.std.specs.Prelude.{◌≡◌, ◌⊎◌, ℕ, List, Option, Some}
+use Rattle.std.specs.Prelude.{◌≡◌, ◌⊎◌, ℕ, List, [], ◌∷◌, Option, Some}
+use Rattle.tc_answer.specs.SpotLines.{Use, unused, used, used_large, SpotUse}
 use Rattle.tc_answer.specs.declared.status.Status.{Status}
 use Rattle.tc_io.specs.Faults.{Rose}
 use Rattle.tc_io.specs.Sink.{Appended}
@@ -10,7 +11,7 @@ use Rattle.tc_model.specs.SheetTextTrees.{Template}
 use Rattle.tc_model.specs.SheetTextPhrases.{IsStylesheet}
 use Rattle.tc_model.specs.Trees.{Trees}
 use Rattle.tc_model.specs.XmlText.{XmlText}
-use Rattle.tc_answer.specs.Answers.{Answer, cannot_read, unsafe, unsafe_large, not_included, first_only, second_only, rows_limit, refused, work_limit, open_limit, status_of, text_of}
+use Rattle.tc_answer.specs.Answers.{Answer, cannot_read, unsafe, unsafe_large, not_included, first_only, second_only, spots, rows_limit, refused, work_limit, open_limit, status_of, text_of}
 use Rattle.tc_top.specs.Answers.{IsAnswer, IsAnswerOn}
 use Rattle.tc_decide.specs.RowCounts.{RowCount}
 use Rattle.tc_decide.specs.Texts.{IsRefusedDtd}
@@ -25,8 +26,19 @@ IsOpen (Unsupported why) = Unit {0}
 IsOpen TooDeep = Unit {0}
 IsOpen _ = ⊥
 
+-- the same is told of two spots, but for which document is shown
+pub data AreUsedAlike : Use → Use → Type 0 where
+  both_unused : AreUsedAlike unused unused
+  both_used : {document other_document : Trees} → AreUsedAlike (used document) (used other_document)
+  both_used_large : AreUsedAlike used_large used_large
+
+-- and of the same spots
+pub data AreToldAlike : List SpotUse → List SpotUse → Type 0 where
+  none_told : AreToldAlike [] []
+  one_told : {u v : SpotUse} {us vs : List SpotUse} → u.spot ≡ v.spot → AreUsedAlike u.found v.found → AreToldAlike us vs → AreToldAlike (u ∷ us) (v ∷ vs)
+
 -- One answer, but for what is left open: which least counterexample is shown, and so whether its result is; which least document two schemas
--- are shown to differ by; which limit is told where several numbers of rows pass theirs, and of a run that passes both; and for which of the
+-- are shown to differ by, and which shows that a spot is used; which limit is told where several numbers of rows pass theirs, and of a run that passes both; and for which of the
 -- reasons above, and where, the text of an operand is refused.
 pub data AreAlike : Answer → Answer → Type 0 where
   same_answer : {a : Answer} → AreAlike a a
@@ -37,6 +49,7 @@ pub data AreAlike : Answer → Answer → Type 0 where
   documents_not_included : {document other_document : Trees} → AreAlike (not_included document) (not_included other_document)
   documents_of_first : {document other_document : Trees} → AreAlike (first_only document) (first_only other_document)
   documents_of_second : {document other_document : Trees} → AreAlike (second_only document) (second_only other_document)
+  spots_alike : {told other_told : List SpotUse} → AreToldAlike told other_told → AreAlike (spots told) (spots other_told)
   row_limits : {count other_count : RowCount} {number other_number : ℕ} → AreAlike (rows_limit count number) (rows_limit other_count other_number)
   work_or_open : AreAlike work_limit open_limit
   open_or_work : AreAlike open_limit work_limit

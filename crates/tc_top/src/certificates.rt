@@ -2,14 +2,16 @@
 ghost use Rattle.std.specs.Prelude.{◌≡◌, ◌≤◌, ℕ, List, IfOk};
 ghost use Rattle.tc_answer.specs.Words as w;
 ghost use Rattle.tc_answer.specs.Words.{Words};
+ghost use Rattle.tc_decide.specs.declared.limits.TheConstants.{GREATEST_LIMIT};
 ghost use Rattle.tc_io.specs.Reads.{Happened};
 ghost use Rattle.tc_top.specs.AnswersSeen.{IsRightFor};
 ghost use Rattle.tc_top.specs.Checking.{most_rows};
 
 use crate::check::row_limit;
-use crate::task::{Task, decide_texts};
+use crate::prove::prove_texts;
 use crate::unread::answer_unread;
 use crate::upgrade::upgrade_text;
+use crate::verify::verify_texts;
 use std::alloc::Global;
 use tc_answer::{Answer, Source, Triple, read_operand, read_triple, read_verified};
 use tc_base::NoMemory;
@@ -23,7 +25,7 @@ pub fn prove<S: Store>(
     triple: Triple<'_>,
     store: &mut S,
 ) -> Result<Answer, NoMemory>
-    requires few { most_rows limit ≤ 4000 }
+    requires few { most_rows limit ≤ GREATEST_LIMIT }
     ensures same { S.holds store.new ≡ S.holds store.old }
     ensures count { S.faults store.old ≤ S.faults store.new }
     ensures ok { IfOk result (λ said. (words : List (List ℕ))
@@ -32,7 +34,7 @@ pub fn prove<S: Store>(
         → IsRightFor words (Happened S.read_gives S.holds S.faults store.old store.new) said) }
 {
     match read_triple(alloc, triple, store) {
-        Ok(operands) => decide_texts(alloc, Task::Prove(row_limit(limit)), &operands),
+        Ok(operands) => prove_texts(alloc, row_limit(limit), &operands),
         Err(unread) => answer_unread(alloc, unread),
     }
 }
@@ -53,9 +55,7 @@ pub fn verify<S: Store>(
         → IsRightFor words (Happened S.read_gives S.holds S.faults store.old store.new) said) }
 {
     match read_verified(alloc, triple, certificate, store) {
-        Ok((operands, certificate)) => {
-            decide_texts(alloc, Task::Verify(&certificate), &operands)
-        }
+        Ok((operands, certificate)) => verify_texts(alloc, &operands, &certificate),
         Err(unread) => answer_unread(alloc, unread),
     }
 }

@@ -29,7 +29,7 @@ pub fn check<S: Store>(
     triple: Triple<'_>,
     store: &mut S,
 ) -> Result<Answer, NoMemory>
-    requires few { most_rows limit ≤ 4000 }
+    requires few { most_rows limit ≤ GREATEST_LIMIT }
     ensures same { S.holds store.new ≡ S.holds store.old }
     ensures count { S.faults store.old ≤ S.faults store.new }
     ensures ok { IfOk result (λ said. (words : List (List ℕ))

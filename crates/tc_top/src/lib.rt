@@ -5,7 +5,6 @@ mod certificates;
 mod check;
 mod compare;
 mod demo;
-mod empty;
 pub mod laws;
 mod pieces;
 mod program;
@@ -13,7 +12,7 @@ mod prove;
 mod run;
 mod schema_texts;
 mod schemas;
-mod task;
+mod spots;
 mod unread;
 mod upgrade;
 mod valid;
@@ -40,8 +39,9 @@ ghost use Rattle.tc_decide.specs.declared.limits.TheConstants.{MOST_ROWS};
 ghost use Rattle.tc_top.specs.Headline.{IsCutShort, ChecksFiles, ChecksShortFiles, ShowsCounterexample, DecidesSafety, ValidatesFiles, DecidesValidity, RunsFiles, GivesResult};
 ghost use Rattle.tc_top.specs.OneAnswer.{GivesOneLike};
 ghost use Rattle.tc_top.specs.ComparedFiles.{ComparesFiles, DecidesComparison};
+ghost use Rattle.tc_top.specs.DeadFiles.{AsksFiles, AsksShortFiles, DecidesSpots, IsShownSo, IsTold, IsUnusedSo, WritesSpots};
 ghost use Rattle.tc_top.specs.FilesInPieces.{ValidatesFilesInPieces, DecidesValidityInPieces};
-ghost use Rattle.tc_top.specs.Comparing.{inclusion, equality};
+ghost use Rattle.tc_decide.specs.Comparing.{inclusion, equality};
 ghost use Rattle.tc_answer.specs.Words as w;
 ghost use Rattle.tc_answer.specs.Words.{Words, IsNoCommand};
 ghost use Rattle.tc_answer.specs.WordsSeen.{texts};
@@ -54,6 +54,7 @@ use pieces::valid_in_pieces;
 pub use program::run_program;
 use run::run;
 use schemas::compare;
+use spots::dead;
 use std::alloc::Global;
 use tc_answer::{Answer, Command, read_words, write_lines};
 pub use tc_answer::{Status, WordList};
@@ -180,6 +181,22 @@ pub fn typecheck<S: Store, K: Sink>(
         → IsCutShort result (Rose (S.faults store.old) (S.faults store.new))
         ⊎ DecidesComparison g h result (K.written sink.old) (K.written sink.new) equality }
 
+    // `dead` of held files: each spot of the stylesheet that is told to be dead is instantiated by no document that is valid for the schema;
+    // each document that is written is valid, and instantiates its spot; and some valid document does of which it is told that all are too large.
+    ensures unused { (files : Files) (i : Grammar) (s : Sheet) → S.holds store.old ≡ Some files
+        → AsksFiles words.now files i s → IsTold result
+        → WritesSpots (K.written sink.old) (K.written sink.new) s (IsUnusedSo i s) }
+    ensures instantiated { (files : Files) (i : Grammar) (s : Sheet)
+        → S.holds store.old ≡ Some files → AsksFiles words.now files i s → IsTold result
+        → WritesSpots (K.written sink.old) (K.written sink.new) s (IsShownSo i s) }
+
+    // It tells of each spot exactly where none passes a limit: that it is dead, or a least document that instantiates it, unless all that
+    // do are too large; it is no exactly where one is dead; and it tells of a limit exactly where a spot passes one.
+    ensures spots_told { (files : Files) (i : Grammar) (s : Sheet) → S.holds store.old ≡ Some files
+        → AsksShortFiles words.now files i s
+        → IsCutShort result (Rose (S.faults store.old) (S.faults store.new))
+        ⊎ DecidesSpots i s result (K.written sink.old) (K.written sink.new) }
+
     // What is held stays as it is, and no count of faults falls.
     ensures held { S.holds store.new ≡ S.holds store.old }
     ensures store_count { S.faults store.old ≤ S.faults store.new }
@@ -222,6 +239,7 @@ fn answer_words<S: Store>(
         Command::Verify(triple, certificate) => verify(alloc, triple, certificate, store),
         Command::Demo(size) => demo(alloc, size),
         Command::Upgrade(certificate) => upgrade(alloc, certificate, store),
+        Command::Dead(input, sheet) => dead(alloc, input, sheet, store),
         Command::Include(first, second) => {
             compare(alloc, Question::Inclusion, first, second, store)
         }

@@ -20,7 +20,6 @@ ghost use Rattle.tc_top.specs.PiecesSeen.{IsSchemaParts};
 ghost use Rattle.tc_top.specs.SchemaTexts.{IsSchemaOfText};
 ghost use Rattle.tc_top.specs.TextsSeen.{SaysOfText};
 
-use crate::empty::{no_rules, no_schema};
 use crate::pieces::{SchemaParts, schema_parts};
 use crate::schema_texts::read_operand_schema;
 use crate::unread::{answer_unaccepted, answer_unread};
@@ -30,6 +29,7 @@ use tc_alpha::{AlphaFault, Alphabet};
 use tc_answer::{Answer, Operand, Source, read_pair};
 use tc_base::{Limit, NoMemory};
 use tc_decide::LimitFault;
+use tc_decide::empty::{no_rules, no_schema};
 use tc_io::Store;
 use tc_model::{Grammar, Node};
 use tc_read::{Schema, read_document};

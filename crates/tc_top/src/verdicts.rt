@@ -3,12 +3,15 @@ ghost use Rattle.std.specs.Prelude.{◌≡◌, IfOk};
 ghost use Rattle.tc_answer.specs.AnswersSeen.{Says};
 ghost use Rattle.tc_model.specs.Trees.{none};
 ghost use Rattle.tc_model.specs.Views as see;
-ghost use Rattle.tc_top.specs.VerdictsSeen.{SaysFailure, limit_answer, name_by, unsafe_answer, verdict_answer};
+ghost use Rattle.tc_top.specs.VerdictsSeen.{SaysFailure, SaysFailureBy, equality_answer, inclusion_answer, limit_answer, name_by, name_of_two, proof_answer, unsafe_answer, upgrade_answer, verdict_answer, verification_answer};
 
 use std::alloc::Global;
 use tc_answer::{Answer, Operands};
 use tc_base::NoMemory;
-use tc_decide::{Failure, Kind, Output, Verdict, Which};
+use tc_decide::{
+    Equality, Failure, Inclusion, Kind, Output, Proof, Rejection, Upgrade, Verdict, Verification,
+    Which,
+};
 use tc_model::Node;
 
 /// The answer that a verdict is.
@@ -18,6 +21,60 @@ pub fn answer_verdict(alloc: Global, verdict: &Verdict<'_>) -> Result<Answer, No
     match verdict {
         Verdict::Safe(rows) => Answer::safe(alloc, rows.trees, rows.hedges, rows.outputs),
         Verdict::Unsafe(document, output) => answer_unsafe(alloc, document, output),
+    }
+}
+
+/// The answer that a proof is.
+pub fn answer_proof(alloc: Global, proof: Proof<'_>) -> Result<Answer, NoMemory>
+    ensures { IfOk result (λ said. Says said (proof_answer proof.entry)) }
+{
+    match proof {
+        Proof::Certified(text) => Ok(Answer::certificate(text)),
+        Proof::Unsafe(document, output) => answer_unsafe(alloc, &document, &output),
+    }
+}
+
+/// The answer that a verification is.
+pub fn answer_verification(
+    alloc: Global,
+    verification: Verification<'_>,
+) -> Result<Answer, NoMemory>
+    ensures { IfOk result (λ said. Says said (verification_answer verification.entry)) }
+{
+    match verification {
+        Verification::Accepted => Ok(Answer::accepted()),
+        Verification::Rejected(why) => Answer::rejected(alloc, why),
+    }
+}
+
+/// The answer that an upgrade is.
+pub fn answer_upgrade(alloc: Global, upgrade: Upgrade) -> Result<Answer, NoMemory>
+    ensures { IfOk result (λ said. Says said (upgrade_answer upgrade)) }
+{
+    match upgrade {
+        Upgrade::Text(text) => Ok(Answer::certificate(text)),
+        Upgrade::Malformed(line) => Answer::rejected(alloc, Rejection::Form(line)),
+    }
+}
+
+/// The answer that an inclusion is.
+pub fn answer_inclusion(alloc: Global, inclusion: Inclusion<'_>) -> Result<Answer, NoMemory>
+    ensures { IfOk result (λ said. Says said (inclusion_answer inclusion.entry)) }
+{
+    match inclusion {
+        Inclusion::Included(trees, hedges) => Answer::included(alloc, trees, hedges),
+        Inclusion::Not(document) => Answer::not_included(alloc, &[document]),
+    }
+}
+
+/// The answer that an equality is.
+pub fn answer_equality(alloc: Global, equality: Equality<'_>) -> Result<Answer, NoMemory>
+    ensures { IfOk result (λ said. Says said (equality_answer equality.entry)) }
+{
+    match equality {
+        Equality::Same => Ok(Answer::equal()),
+        Equality::FirstOnly(document) => Answer::first_only(alloc, &[document]),
+        Equality::SecondOnly(document) => Answer::second_only(alloc, &[document]),
     }
 }
 
@@ -55,18 +112,49 @@ pub fn answer_failure(
     }
 }
 
+/// The answer that a failure of two texts with these names is, but for want of memory.
+pub fn answer_pair_failure(
+    alloc: Global,
+    first: &str,
+    second: &str,
+    failure: Failure,
+) -> Result<Answer, NoMemory>
+    ensures { IfOk result (SaysFailureBy (name_of_two first.now second.now) failure) }
+{
+    match failure {
+        Failure::Refused(which, reason, place) => {
+            Answer::refused(alloc, name_of_pair(first, second, which), reason, place)
+        }
+        Failure::Passes(kind, number) => answer_limit(alloc, kind, number),
+        Failure::NoMemory => Err(NoMemory),
+    }
+}
+
+/// The name of one of two texts.
+fn name_of_pair<'n>(first: &'n str, second: &'n str, which: Which) -> &'n str
+    ensures { result.now ≡ name_of_two first.now second.now which }
+{
+    match which {
+        Which::Input | Which::Sheet => first,
+        Which::Output | Which::Document => second,
+    }
+}
+
 /// The answer that a limit is passed.
-fn answer_limit(alloc: Global, kind: Kind, number: u32) -> Result<Answer, NoMemory>
+pub fn answer_limit(alloc: Global, kind: Kind, number: u32) -> Result<Answer, NoMemory>
     ensures { IfOk result (λ said. Says said (limit_answer kind number)) }
 {
     match kind {
         Kind::Texts(limit) => Answer::limit(alloc, limit, number),
         Kind::Rows(count) => Answer::rows_limit(alloc, count, number),
         Kind::Nodes => Answer::counterexample_limit(alloc),
+        Kind::Certificate => Answer::certificate_limit(alloc),
+        Kind::Work => Answer::work_limit(alloc),
+        Kind::Open => Answer::open_limit(alloc),
     }
 }
 
-/// The name of an operand.
+/// The name of an operand; no document is among them.
 fn name_of<'n>(operands: &Operands<'n>, which: Which) -> &'n str
     ensures { result.now
         ≡ name_by operands.now.input.name.now operands.now.output.name.now
@@ -75,6 +163,6 @@ fn name_of<'n>(operands: &Operands<'n>, which: Which) -> &'n str
     match which {
         Which::Input => operands.input.name,
         Which::Output => operands.output.name,
-        Which::Sheet => operands.sheet.name,
+        Which::Sheet | Which::Document => operands.sheet.name,
     }
 }

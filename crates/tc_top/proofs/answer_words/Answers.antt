@@ -71,6 +71,9 @@ returns-in-Verify-clause-unread g c = λ nothing. absurd (reads_some nothing (wo
 pub returns-in-Upgrade-clause-unread : goal.returns-in-Upgrade-clause-unread
 returns-in-Upgrade-clause-unread g c = λ nothing. absurd (reads_some nothing (words_at _ _ c.in-Upgrade.is (MatchOption-at_some _ _ _ c.in-Some.is c.read_words.ensures)) refl)
 
+pub returns-in-Dead-clause-unread : goal.returns-in-Dead-clause-unread
+returns-in-Dead-clause-unread g c = λ nothing. absurd (reads_some nothing (words_at _ _ c.in-Dead.is (MatchOption-at_some _ _ _ c.in-Some.is c.read_words.ensures)) refl)
+
 pub prove-requires : goal.prove-requires
 prove-requires g c = let words = MatchOption-at_some _ _ _ c.in-Some.is c.read_words.ensures in record { few = few_rows_proved (words_at _ _ c.in-Prove.is words) }
 
@@ -104,6 +107,10 @@ pub returns-in-Upgrade-clause-right : goal.returns-in-Upgrade-clause-right
 returns-in-Upgrade-clause-right g c =
     IfOk-weaker c.upgrade.result _ _ (λ said right. right _ (words_at _ _ c.in-Upgrade.is (MatchOption-at_some _ _ _ c.in-Some.is c.read_words.ensures))) c.upgrade.ensures.ok
 
+pub returns-in-Dead-clause-right : goal.returns-in-Dead-clause-right
+returns-in-Dead-clause-right g c =
+    IfOk-weaker c.dead.result _ _ (λ said right. right _ (words_at _ _ c.in-Dead.is (MatchOption-at_some _ _ _ c.in-Some.is c.read_words.ensures))) c.dead.ensures.ok
+
 pub returns-in-Include-clause-right : goal.returns-in-Include-clause-right
 returns-in-Include-clause-right g c =
     IfOk-weaker c.compare.result _ _ (λ said right. right _ (words_at _ _ c.in-Include.is (MatchOption-at_some _ _ _ c.in-Some.is c.read_words.ensures))) c.compare.ensures.ok
@@ -134,6 +141,9 @@ returns-in-Verify-clause-no_memory g c = for_command c.verify.result (words_at _
 
 pub returns-in-Upgrade-clause-no_memory : goal.returns-in-Upgrade-clause-no_memory
 returns-in-Upgrade-clause-no_memory g c = for_command c.upgrade.result (words_at _ _ c.in-Upgrade.is (MatchOption-at_some _ _ _ c.in-Some.is c.read_words.ensures))
+
+pub returns-in-Dead-clause-no_memory : goal.returns-in-Dead-clause-no_memory
+returns-in-Dead-clause-no_memory g c = for_command c.dead.result (words_at _ _ c.in-Dead.is (MatchOption-at_some _ _ _ c.in-Some.is c.read_words.ensures))
 
 pub returns-in-Include-clause-no_memory : goal.returns-in-Include-clause-no_memory
 returns-in-Include-clause-no_memory g c = for_command c.compare.result (words_at _ _ c.in-Include.is (MatchOption-at_some _ _ _ c.in-Some.is c.read_words.ensures))

@@ -6,7 +6,8 @@ use Rattle.tc_top.proofs.Exact.{alike_at, exact, usage_only}
 use Rattle.tc_top.proofs.Headline.{at_words, at_told, gives, headline, safe_is_so, unsafe_is_shown, demo_is_safe, demo_is_shown, demonstrated, validity, running, limited}
 use Rattle.tc_top.proofs.CertifiedExact.{proof_of_files, accepted_is_safe, certificate_of_files, upgrade_of_files}
 use Rattle.tc_top.proofs.Comparisons.{includes, equals}
-use Rattle.tc_top.proofs.CutShort.{by_fault, by_memory, fault_not_no, fault_not_yes, memory_not_no, memory_not_yes}
+use Rattle.tc_top.proofs.SpotsExact.{dead_unused, dead_shown, dead_decided}
+use Rattle.tc_top.proofs.CutShort.{by_fault, by_memory, fault_not_no, fault_not_yes, fault_not_told, memory_not_no, memory_not_yes, memory_not_told}
 use Rattle.tc_top.proofs.FilesInPieces.{validity_in_pieces}
 use Rattle.tc_answer.specs.Words.{Words}
 use Rattle.tc_top.proofs.typecheck.Goals as goal
@@ -132,6 +133,24 @@ returns-in-Ok-write_lines-clause-upgraded g c = λ files bytes told upgrades.
     let written = subst (Appended (g.K.Sink.written c.args.sink.now) (g.K.Sink.written c.write_lines.new.sink)) (c.as_bytes.ensures ∙ right.2.1.written) c.in-Ok-write_lines.ensures.ok in
     upgrade_of_files files bytes _ _ _ right.2.0 upgrades (at_told _ right.0 told right.1.true) right.2.2 right.2.1.status written
 
+pub returns-in-Ok-write_lines-clause-unused : goal.returns-in-Ok-write_lines-clause-unused
+returns-in-Ok-write_lines-clause-unused g c = λ files i s told asks e.
+    let right = at_words c.as_slice.ensures c.in-Ok.ensures.right in
+    let written = subst (Appended (g.K.Sink.written c.args.sink.now) (g.K.Sink.written c.write_lines.new.sink)) (c.as_bytes.ensures ∙ right.2.1.written) c.in-Ok-write_lines.ensures.ok in
+    dead_unused files i s _ _ _ right.2.0 _ asks (at_told _ right.0 told right.1.true) right.2.2 right.2.1.status written e
+
+pub returns-in-Ok-write_lines-clause-instantiated : goal.returns-in-Ok-write_lines-clause-instantiated
+returns-in-Ok-write_lines-clause-instantiated g c = λ files i s told asks e.
+    let right = at_words c.as_slice.ensures c.in-Ok.ensures.right in
+    let written = subst (Appended (g.K.Sink.written c.args.sink.now) (g.K.Sink.written c.write_lines.new.sink)) (c.as_bytes.ensures ∙ right.2.1.written) c.in-Ok-write_lines.ensures.ok in
+    dead_shown files i s _ _ _ right.2.0 _ asks (at_told _ right.0 told right.1.true) right.2.2 right.2.1.status written e
+
+pub returns-in-Ok-write_lines-clause-spots_told : goal.returns-in-Ok-write_lines-clause-spots_told
+returns-in-Ok-write_lines-clause-spots_told g c = λ files i s told asks.
+    let right = at_words c.as_slice.ensures c.in-Ok.ensures.right in
+    let written = subst (Appended (g.K.Sink.written c.args.sink.now) (g.K.Sink.written c.write_lines.new.sink)) (c.as_bytes.ensures ∙ right.2.1.written) c.in-Ok-write_lines.ensures.ok in
+    dead_decided files i s _ _ _ right.2.0 asks (at_told _ right.0 told right.1.true) right.2.2 right.2.1.status written
+
 -- ways out on which nothing is written, or not all
 
 pub returns-in-Ok-clause-usage : goal.returns-in-Ok-clause-usage
@@ -187,6 +206,24 @@ returns-in-Ok-clause-accepted_safe g c = λ _ _ _ _ _ _ _ e. fault_not_yes e
 
 pub returns-in-Ok-clause-running : goal.returns-in-Ok-clause-running
 returns-in-Ok-clause-running g c = λ _ _ _ _ _ e. fault_not_yes e
+
+pub returns-in-Ok-clause-spots_told : goal.returns-in-Ok-clause-spots_told
+returns-in-Ok-clause-spots_told g c = λ _ _ _ _ _. by_fault
+
+pub returns-in-Ok-clause-unused : goal.returns-in-Ok-clause-unused
+returns-in-Ok-clause-unused g c = λ _ _ _ _ _ e. fault_not_told e
+
+pub returns-in-Ok-clause-instantiated : goal.returns-in-Ok-clause-instantiated
+returns-in-Ok-clause-instantiated g c = λ _ _ _ _ _ e. fault_not_told e
+
+pub returns-clause-spots_told : goal.returns-clause-spots_told
+returns-clause-spots_told g c = λ _ _ _ _ _. by_memory
+
+pub returns-clause-unused : goal.returns-clause-unused
+returns-clause-unused g c = λ _ _ _ _ _ e. memory_not_told e
+
+pub returns-clause-instantiated : goal.returns-clause-instantiated
+returns-clause-instantiated g c = λ _ _ _ _ _ e. memory_not_told e
 
 pub returns-clause-usage : goal.returns-clause-usage
 returns-clause-usage g c = λ _. by_memory

@@ -53,6 +53,11 @@ returns-in-upgrade c =
     let first = texts-first _ _ _ _ (codes "upgrade") c.in_ok-name.ensures.cases.0 c.as_str.ensures.value c.in-upgrade.is in
     subst (λ ws. MatchOption c.read_upgrade.result (IsNoCommand ws) (λ k. Words ws (command k))) (sym first) c.read_upgrade.ensures
 
+pub returns-in-dead : goal.returns-in-dead
+returns-in-dead c =
+    let first = texts-first _ _ _ _ (codes "dead") c.in_ok-name.ensures.cases.0 c.as_str.ensures.value c.in-dead.is in
+    subst (λ ws. MatchOption c.read_dead.result (IsNoCommand ws) (λ k. Words ws (command k))) (sym first) c.read_dead.ensures
+
 pub returns-in_err-sheet-in-run : goal.returns-in_err-sheet-in-run
 returns-in_err-sheet-in-run c =
     let first = texts-first _ _ _ _ (codes "run") c.in_ok-name.ensures.cases.0 c.as_str.ensures.value c.in-run.is in

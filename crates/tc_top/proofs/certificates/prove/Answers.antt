@@ -11,7 +11,7 @@ pub returns-in-Ok-clause-ok : goal.returns-in-Ok-clause-ok
 returns-in-Ok-clause-ok g c =
     let read = c.in-Ok.ensures in
     let o = c.in-Ok.operands in
-    IfOk-weaker c.decide_texts.result _ _ (λ said h words are. (
+    IfOk-weaker c.prove_texts.result _ _ (λ said h words are. (
       _,
       read.ok,
       (
@@ -22,7 +22,7 @@ returns-in-Ok-clause-ok g c =
             (three_named (λ x y z. Proves (most_rows c.args.limit) x y z o.input.text.items o.output.text.items o.sheet.text.items h.0) (sym read.input) (sym read.output) (sym read.sheet)
             (proves_at c.row_limit.result (most_rows c.args.limit) o.input.name.now o.output.name.now o.sheet.name.now o.input.text.items o.output.text.items o.sheet.text.items h.0 c.row_limit.ensures h.2))),
       ),
-    )) c.decide_texts.ensures
+    )) c.prove_texts.ensures
 
 pub returns-in-Err-clause-ok : goal.returns-in-Err-clause-ok
 returns-in-Err-clause-ok g c =

@@ -10,7 +10,7 @@ pub returns-in-Ok-clause-ok : goal.returns-in-Ok-clause-ok
 returns-in-Ok-clause-ok g c =
     let read = c.in-Ok.ensures in
     let o = c.in-Ok.operands in
-    IfOk-weaker c.decide_texts.result _ _ (λ said h words are. (
+    IfOk-weaker c.verify_texts.result _ _ (λ said h words are. (
       _,
       read.ok,
       (
@@ -20,7 +20,7 @@ returns-in-Ok-clause-ok g c =
             (verified read.ok.true.1.1.1.0.short
             (three_named (λ x y z. Verifies x y z o.input.text.items o.output.text.items o.sheet.text.items c.in-Ok.certificate.text.items h.0) (sym read.input) (sym read.output) (sym read.sheet) h.2)),
       ),
-    )) c.decide_texts.ensures
+    )) c.verify_texts.ensures
 
 pub returns-in-Err-clause-ok : goal.returns-in-Err-clause-ok
 returns-in-Err-clause-ok g c =

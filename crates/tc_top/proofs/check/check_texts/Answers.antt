@@ -1,9 +1,10 @@
 use Rattle.std.proofs.Common.{subst}
 use Rattle.std.proofs.lemmas.Result.{IfOk-weaker}
-use Rattle.tc_top.specs.Causes.{Checks}
+use Rattle.tc_decide.specs.Deciding.{TellsCounts}
+use Rattle.tc_top.specs.Causes.{Finds, Checks}
 use Rattle.tc_top.specs.VerdictsSeen.{verdict_answer}
 use Rattle.tc_top.proofs.SchemaTextLaws.{short_text}
-use Rattle.tc_top.proofs.Decided.{verdict_checks, failure_checks}
+use Rattle.tc_top.proofs.Decided.{by_all, by_failure, of_verdict, found, limited}
 use Rattle.tc_top.proofs.check.check_texts.Goals as goal
 
 pub check-requires-clause-input : goal.check-requires-clause-input
@@ -16,13 +17,14 @@ pub returns-in-Ok : goal.returns-in-Ok
 returns-in-Ok c =
     let o = c.args.operands.now in
     let e = c.in-Ok.ensures in
+    let v = c.in-Ok.verdict in
     let checks =
-    verdict_checks o.input.name.now o.output.name.now o.sheet.name.now o.input.text.items o.output.text.items c.deref.result.now _ _ c.schema_text-input.ensures c.schema_text-output.ensures
-    c.args.most c.in-Ok.verdict e.refused e.headline e.counted in
+    by_all o.input.name.now o.output.name.now o.sheet.name.now o.input.text.items o.output.text.items c.deref.result.now _ _ c.schema_text-input.ensures c.schema_text-output.ensures
+    (Finds c.args.most) {answer = verdict_answer v} e.refused (λ i p s x y z. found c.args.most i p s v (of_verdict v (e.headline i p s x y z)) (e.counted i p s x y z)) in
     IfOk-weaker c.answer_verdict.result _ _ (λ said says. (
-      verdict_answer c.in-Ok.verdict,
+      verdict_answer v,
       says,
-      subst (λ w. Checks c.args.most o.input.name.now o.output.name.now o.sheet.name.now o.input.text.items o.output.text.items w (verdict_answer c.in-Ok.verdict)) c.deref.ensures.value checks,
+      subst (λ w. Checks c.args.most o.input.name.now o.output.name.now o.sheet.name.now o.input.text.items o.output.text.items w (verdict_answer v)) c.deref.ensures.value checks,
     )) c.answer_verdict.ensures
 
 pub returns : goal.returns
@@ -30,7 +32,7 @@ returns c =
     let o = c.args.operands.now in
     let e = c.in-Err.ensures in
     IfOk-weaker c.answer_failure.result _ _ (λ said says.
-    let found =
-    failure_checks o.input.name.now o.output.name.now o.sheet.name.now o.input.text.items o.output.text.items c.deref.result.now _ _ c.schema_text-input.ensures c.schema_text-output.ensures
-    c.args.most c.in-Err.failure said e.refused e.counted says in
-    (found.0, found.1, subst (λ w. Checks c.args.most o.input.name.now o.output.name.now o.sheet.name.now o.input.text.items o.output.text.items w found.0) c.deref.ensures.value found.2)) c.answer_failure.ensures
+    let told =
+    by_failure o.input.name.now o.output.name.now o.sheet.name.now o.input.text.items o.output.text.items c.deref.result.now _ _ c.schema_text-input.ensures c.schema_text-output.ensures
+    (Finds c.args.most) (TellsCounts c.args.most) (limited c.args.most) c.in-Err.failure said e.refused e.counted says in
+    (told.0, told.1, subst (λ w. Checks c.args.most o.input.name.now o.output.name.now o.sheet.name.now o.input.text.items o.output.text.items w told.0) c.deref.ensures.value told.2)) c.answer_failure.ensures

@@ -1,16 +1,17 @@
+use Rattle.std.proofs.Common.{sym, subst}
 use Rattle.std.proofs.lemmas.Result.{IfOk-weaker}
-use Rattle.tc_answer.specs.Answers as a
-use Rattle.tc_top.specs.Comparing.{first_refused}
-use Rattle.tc_top.proofs.Unaccepted.{refused_as}
-use Rattle.tc_top.specs.SchemaTexts.{IsRefusedText}
+use Rattle.tc_top.specs.Comparing.{Compares}
+use Rattle.tc_top.specs.Pairs.{question}
 use Rattle.tc_top.proofs.compare.compare_texts.Goals as goal
 
-pub returns : goal.returns
-returns c =
-    let why = c.in-Err.ensures.no in
-    IfOk-weaker c.answer_unaccepted.result _ _ (λ said says.
-    let found = refused_as said (IsRefusedText c.args.first.now.name.now c.args.first.now.text.items) c.args.first.now.name.now c.in-Err.fault says why in
-    (a.refused c.args.first.now.name.now found.0 found.1, found.2, first_refused found.3)) c.answer_unaccepted.ensures
+pub returns-in-Inclusion : goal.returns-in-Inclusion
+returns-in-Inclusion c =
+    let one = c.args.first.now in
+    let other = c.args.second.now in
+    IfOk-weaker c.include_texts.result _ _ (λ said h. (h.0, h.1, subst (λ q. Compares (question q) one.name.now other.name.now one.text.items other.text.items h.0) (sym c.in-Inclusion.is) h.2)) c.include_texts.ensures
 
-pub compare_second-requires-clause-first : goal.compare_second-requires-clause-first
-compare_second-requires-clause-first c = c.in-Ok.ensures.ok
+pub returns-in-Equality : goal.returns-in-Equality
+returns-in-Equality c =
+    let one = c.args.first.now in
+    let other = c.args.second.now in
+    IfOk-weaker c.same_texts.result _ _ (λ said h. (h.0, h.1, subst (λ q. Compares (question q) one.name.now other.name.now one.text.items other.text.items h.0) (sym c.in-Equality.is) h.2)) c.same_texts.ensures

@@ -2,8 +2,8 @@ use Rattle.std.proofs.Common.{◌≡◌, ◌∙◌, true, false, sym}
 use Rattle.std.proofs.lemmas.Result.{IfOk-weaker}
 use Rattle.tc_answer.specs.Answers as a
 use Rattle.tc_top.proofs.InPieces.{told_valid, told_invalid, told_fault}
-use Rattle.tc_top.specs.Nothing.{no_schema, no_rules}
-use Rattle.tc_top.proofs.Nothing.{schema_alone}
+use Rattle.tc_decide.specs.Nothing.{no_schema, no_rules}
+use Rattle.tc_decide.proofs.Nothing.{schema_alone}
 use Rattle.tc_top.proofs.pieces.document_in_pieces.Goals as goal
 
 pub feed_all-requires-clause-nothing : goal.feed_all-requires-clause-nothing

@@ -3,8 +3,7 @@ use Rattle.std.proofs.lemmas.Result.{IfOk-weaker}
 use Rattle.tc_answer.specs.Answers as a
 use Rattle.tc_top.specs.InPieces.{PassesValidity, schema_limited}
 use Rattle.tc_decide.specs.MachinesSeen.{IsCauseBy}
-use Rattle.tc_top.proofs.Compared.{says_limit}
-use Rattle.tc_top.proofs.InPieces.{few_states}
+use Rattle.tc_top.proofs.InPieces.{few_states, says_limit}
 use Rattle.tc_decide.proofs.MachineLimits.{some_grammar}
 use Rattle.tc_top.proofs.pieces.schema_in_pieces.Goals as goal
 

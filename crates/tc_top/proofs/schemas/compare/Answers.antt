@@ -8,7 +8,8 @@ use Rattle.tc_answer.specs.Words.{Source, schema, operands_of}
 use Rattle.tc_answer.specs.Answers.{Answer}
 use Rattle.tc_top.specs.Answers.{IsAnswerTo, decided, compared_one_way, compared_both_ways}
 use Rattle.tc_top.specs.ComparedFiles.{asks}
-use Rattle.tc_top.specs.Comparing.{Question, Compares, inclusion, equality}
+use Rattle.tc_decide.specs.Comparing.{Question, inclusion, equality}
+use Rattle.tc_top.specs.Comparing.{Compares}
 use Rattle.tc_top.specs.Pairs.{question as asked}
 use Rattle.tc_top.proofs.schemas.compare.Goals as goal
 

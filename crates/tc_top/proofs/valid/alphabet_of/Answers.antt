@@ -5,7 +5,7 @@ use Rattle.tc_base.specs.declared.limits.TheConstants.{MOST_SYMBOLS}
 use Rattle.tc_model.specs.Symbols.{Mention, symbol_count}
 use Rattle.tc_model.specs.Views as see
 use Rattle.tc_decide.specs.Limits.{AreFew}
-use Rattle.tc_top.proofs.Nothing.{schema_beside}
+use Rattle.tc_decide.proofs.Nothing.{schema_beside}
 use Rattle.tc_top.proofs.valid.alphabet_of.Goals as goal
 
 pub returns-clause-stands : goal.returns-clause-stands

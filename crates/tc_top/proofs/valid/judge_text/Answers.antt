@@ -2,9 +2,9 @@ use Rattle.std.proofs.Common.{◌∙◌, refl, sym, subst}
 use Rattle.tc_model.specs.Stripped.{stripped}
 use Rattle.tc_model.proofs.XmlTextDocument.{document}
 use Rattle.tc_print.specs.ReadBack.{IsReadAs}
-use Rattle.tc_top.specs.Nothing.{no_schema, no_rules}
+use Rattle.tc_decide.specs.Nothing.{no_schema, no_rules}
 use Rattle.tc_top.specs.TextsSeen.{text_read}
-use Rattle.tc_top.proofs.Nothing.{schema_alone}
+use Rattle.tc_decide.proofs.Nothing.{schema_alone}
 use Rattle.tc_top.proofs.valid.judge_text.Goals as goal
 
 pub returns-in-Some : goal.returns-in-Some

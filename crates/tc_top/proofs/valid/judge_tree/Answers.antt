@@ -1,8 +1,8 @@
 use Rattle.std.proofs.Common.{◌∙◌, sym}
 use Rattle.tc_model.specs.Trees.{none}
 use Rattle.tc_model.specs.Views as see
-use Rattle.tc_top.specs.Nothing.{no_schema, no_rules}
-use Rattle.tc_top.proofs.Nothing.{schema_alone}
+use Rattle.tc_decide.specs.Nothing.{no_schema, no_rules}
+use Rattle.tc_decide.proofs.Nothing.{schema_alone}
 use Rattle.tc_top.proofs.valid.judge_tree.Goals as goal
 
 pub returns-in-Some : goal.returns-in-Some

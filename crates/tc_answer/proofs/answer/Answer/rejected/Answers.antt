@@ -1,7 +1,8 @@
 use Rattle.std.proofs.Common.{◌∙◌, ◌++◌, sym, ap, subst, codes, decimal, List, ℕ}
 use Rattle.std.proofs.lemmas.Result.{IfOk-weaker}
 use Rattle.tc_answer.specs.Answers as a
-use Rattle.tc_answer.specs.AnswersSeen.{Says, rejection}
+use Rattle.tc_answer.specs.AnswersSeen.{Says}
+use Rattle.tc_decide.specs.Rejections.{rejection}
 use Rattle.tc_answer.specs.Lines.{line, namespace_text}
 use Rattle.tc_answer.proofs.Lined.{behind_number}
 use Rattle.tc_answer.proofs.answer.Answer.rejected.Goals as goal

@@ -1,7 +1,0 @@
-use Rattle.std.proofs.Common.{arith, rules}
-use Rattle.tc_model.proofs.Views.{steps}
-use Rattle.tc_model.specs.declared.tree.Node.TheViews.{the_lemmas}
-use Rattle.tc_top.proofs.compare.+count_nodes.Goals as goal
-
-pub count_nodes-requires : goal.count_nodes-requires
-count_nodes-requires t c = (search (rules, the_lemmas), grind (arith, steps))
