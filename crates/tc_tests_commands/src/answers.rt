@@ -3,7 +3,7 @@ use crate::commands::{assert_usage, status_into, store_answers, store_of};
 use std::alloc::Global;
 use std::test::Fail;
 use tc_base::NoMemory;
-use tc_io::{MemSink, MemStore, Sink, WriteFault};
+use tc_io::{MemStore, Sink, WriteFault};
 use tc_top::Status;
 
 const CHECK: &[&str] = &["check", "I", "O", "S"];
@@ -16,59 +16,6 @@ const RESULT: &[u8] = b"element r{empty}";
 const SHEET: &[u8] =
     b"<xsl:stylesheet version=\"1.0\" xmlns:xsl=\"http://www.w3.org/1999/XSL/Transform\">\
     <xsl:template match=\"/\"><r/></xsl:template></xsl:stylesheet>";
-
-/// Words, files, the numbers of the reads that fail, and what is written.
-type Unread<'t> = (&'t [&'t str], &'t [(&'t str, &'t [u8])], &'t [u64], &'t str);
-
-const ALL: &[(&str, &[u8])] = &[("I", EMPTY), ("O", b""), ("S", SHEET), ("D", b"<a/>")];
-
-/// Files of which one is missing or cannot be read.
-static FAILING: [Unread<'static>; 6] = [
-    // operands are read before any text is looked at: one is missing, and of one the read fails
-    (CHECK, &[("I", b"of no form")], &[], "cannot read O\n"),
-    (
-        CHECK,
-        &[("I", b"of no form"), ("O", RESULT), ("S", SHEET)],
-        &[2],
-        "cannot read O\n",
-    ),
-    // of several reads that fail the first is told
-    (&["run", "S", "D"], ALL, &[1, 2], "cannot read S\n"),
-    (&["run", "S", "D"], ALL, &[2, 3], "cannot read D\n"),
-    (&["valid", "I", "D"], ALL, &[1, 2], "cannot read I\n"),
-    (&["valid", "I", "D"], ALL, &[2, 3], "cannot read D\n"),
-];
-
-/// A store with these files whose reads of these numbers fail.
-fn failing_store(
-    alloc: Global,
-    files: &[(&str, &[u8])],
-    failing: &[u64],
-) -> Result<MemStore, NoMemory> {
-    let mut store = store_of(alloc, files)?;
-    for number in failing {
-        store.fail_at(*number)?;
-    }
-    Ok(store)
-}
-
-/// Whether a command tells what it could not read.
-fn tells_unread(alloc: Global, case: &Unread<'_>) -> Result<bool, NoMemory> {
-    let (words, files, failing, line) = case;
-    let mut store = failing_store(alloc, files, failing)?;
-    store_answers(alloc, words, &mut store, Status::ReadFault, line)
-}
-
-#[test]
-fn stops_at_the_first_operand_that_cannot_be_read(rt: HostRuntime) {
-    for case in &FAILING {
-        let (words, line) = (case.0, case.3);
-        assert!(rt;
-            tells_unread(rt.alloc(), case).unwrap_or(false),
-            "{words:?} {line}"
-        );
-    }
-}
 
 const LATIN: &[u8] = b"<?xml version=\"1.0\" encoding=\"ISO-8859-1\"?><a>caf\xE9 \xE0 la carte</a>";
 
@@ -106,30 +53,6 @@ fn what_stands_behind_a_refusal_is_not_looked_at(rt: HostRuntime) {
             "{words:?} {line}"
         );
     }
-}
-
-/// A stylesheet that puts an `x` in an `r` out.
-const WITHIN: &[u8] =
-    b"<xsl:stylesheet version=\"1.0\" xmlns:xsl=\"http://www.w3.org/1999/XSL/Transform\">\
-    <xsl:template match=\"/\"><r><x/></r></xsl:template></xsl:stylesheet>";
-
-/// Whether `check`, of an unsafe stylesheet in a store, breaks off at its second write, which fails.
-fn breaks_off(alloc: Global, store: &mut MemStore) -> Result<bool, NoMemory> {
-    let mut sink = MemSink::new(alloc, 200)?;
-    sink.fail_at(2)?;
-    let status = status_into(alloc, CHECK, store, &mut sink)?;
-    Ok(status == Status::WriteFault && sink.bytes() == b"unsafe\n".as_slice())
-}
-
-/// Whether it does so of this stylesheet.
-fn breaks_off_within(alloc: Global) -> Result<bool, NoMemory> {
-    let mut store = store_of(alloc, &[("I", EMPTY), ("O", RESULT), ("S", WITHIN)])?;
-    breaks_off(alloc, &mut store)
-}
-
-#[test]
-fn breaks_off_where_a_write_fails(rt: HostRuntime) {
-    assert!(rt; breaks_off_within(rt.alloc()).unwrap_or(false));
 }
 
 /// Words that are no command.

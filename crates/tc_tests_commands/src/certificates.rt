@@ -42,7 +42,7 @@ const WHOLE: &str = "xslt-typecheck certificate 1\n\
     end\n";
 
 /// The same certificate, rows written as changes of those before.
-const CHANGES: &str = "xslt-typecheck certificate 2\n\
+pub(crate) const CHANGES: &str = "xslt-typecheck certificate 2\n\
     outputs 2\n\
     m 0>0 1>1 2>2 3>3 4>4\n\
     m 2>3 3>3\n\

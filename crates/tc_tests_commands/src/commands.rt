@@ -179,7 +179,7 @@ pub(crate) fn status_of(text: &str) -> Status {
 
 /// What is told of words that are no command.
 const USAGE: &str =
-    "usage: check|prove [--limit N] IN OUT SHEET; verify IN OUT SHEET CERT; run SHEET DOC; valid SCHEMA DOC; demo N; upgrade CERT; include A B; same A B; valid --stream N SCHEMA DOC\n";
+    "usage: check|prove [--limit N] IN OUT SHEET; verify IN OUT SHEET CERT; run SHEET DOC; valid SCHEMA DOC; demo N; upgrade CERT; dead IN SHEET; include A B; same A B; valid --stream N SCHEMA DOC\n";
 
 /// Asserts that each of these words are no command, whatever these files hold.
 pub(crate) fn assert_usage(

@@ -163,14 +163,6 @@ fn operands_are_refused_in_order(rt: HostRuntime) -> Result<(), Fail> {
     Ok(())
 }
 
-#[test]
-fn files_have_a_limit(rt: HostRuntime) -> Result<(), Fail> {
-    let long = vec![in rt.alloc(); b' '; 67_108_865]?;
-    let other = b"of no form".as_slice();
-    assert!(rt; answers(rt.alloc(), &long, other, other, "limit file 67108864\n")?);
-    Ok(())
-}
-
 /// Whether the demonstration of this size is safe, with the rows that it has.
 fn is_safe(alloc: Global, size: u32) -> Result<bool, Fail> {
     let number = format!(in alloc; "{size}")?;

@@ -10,9 +10,13 @@ mod checks;
 #[cfg(test)]
 mod commands;
 #[cfg(test)]
+mod dead;
+#[cfg(test)]
 mod demonstrations;
 #[cfg(test)]
 mod dtd;
+#[cfg(test)]
+mod faults;
 #[cfg(test)]
 mod inclusion;
 #[cfg(test)]
