@@ -35,14 +35,18 @@ run() {
   ) >"$work/answer" 2>"$work/errors"
 }
 
-# Runs the program on the files of some words: `answer` is its status and the first line, `bytes` those of the files, and
+# Runs the program on the files of some words: `answer` is its status and the first line, `bytes` those of the files read, and
 # `bound` and `memory` the seconds and kilobytes that they may take. The first number is that of seconds which it gets, where it
 # isn't the bound, and the second that of kilobytes.
 attempt() {
-  local seconds=$1 kilobytes=$2 words=$3 status=0
+  local seconds=$1 kilobytes=$2 words=$3 word status=0
   shift 3
   make "$words"
-  bytes=$(cat "$files"/* | wc -c)
+  bytes=0
+  for word in "$@"; do
+    word=$files/${word##*:}
+    [ -f "$word" ] && bytes=$((bytes + $(stat -c %s "$word")))
+  done
   bound=10
   memory=1000000
   if ((bytes > 100000)); then
@@ -133,6 +137,8 @@ if [ "$times" = twice ]; then
   twice 'modes 50000' 'modes 100000' run S D
   twice 'uncalled 50000' 'uncalled 100000' run S D
   twice 'uncalled 50000' 'uncalled 100000' check I O S
+  grows 'spots 1450' 'spots 2900' dead I S
+  grows 'uncalled 900' 'uncalled 1800' dead I S
   twice 'one_body 1300' 'one_body 2600' run S D
   twice 'twice 20 0' 'twice 21 0' run S D
   grows 'rows 200' 'rows 400' verify I O S C
@@ -157,7 +163,7 @@ if [ "$times" = twice ]; then
   twice 'references 500000' 'references 1000000' valid I D
   grows 'declarations 5000 10000' 'declarations 10000 20000' valid I D
   grows 'long_namespace 10000 125000' 'long_namespace 20000 250000' valid I D
-  twice 'attributes 3500000' 'attributes 7000000' valid I D
+  grows 'attributes 3500000' 'attributes 7000000' valid I D
   twice 'tags 96000' 'tags 192000' valid I D
   grows 'chains 250' 'chains 500' valid --stream 65536 I D
   grows 'others 500' 'chains 500' valid --stream 65536 I D
@@ -197,6 +203,10 @@ if [ "$times" = stack ]; then
   stack 'applies 1999 2' run S D
   stack 'levels 1 1999' run S D
   stack 'repeated_definitions 1999' valid I D
+  stack 'ifs 1997' dead I S
+  stack 'reach 1990' dead I S
+  stack 'copies 1995 2000' dead I S
+  stack 'branches 498 2000' dead I S
   stack 'residues 3 5 7 19' check I O S
   stack 'residues 3 5 7 19' include I A
   exit
@@ -250,6 +260,10 @@ row '3 refused S too-deep at 52083' 'copies 1996 2000' run S D
 row '0 <r><x><x>' 'branches 498 2000' run S D
 row '0 safe ' 'branches 498 2000' check I O S
 row '3 refused S too-deep at ' 'branches 499 2000' run S D
+row '0 rule 1 used <a/>' 'ifs 1997' dead I S
+row '0 rule 1 used <a/>' 'reach 1990' dead I S
+row '0 rule 1 used <a><d/></a>' 'copies 1995 2000' dead I S
+row '1 rule 1 used <a><d/></a>' 'branches 498 2000' dead I S
 row '0 <b>st<b>st' 'open 5 1597' run S D
 row '4 limit open 8000' 'open 5 1598' run S D
 row '0 <a><a>' 'applies 1999 2' run S D
@@ -273,6 +287,10 @@ row '4 limit calls 8000' 'calls 100000' check I O S
 row '4 limit selects 4096' 'modes 100000' run S D
 row '0 <a/>' 'uncalled 100000' run S D
 row '0 safe ' 'uncalled 100000' check I O S
+row '4 limit calls 8000' 'calls 100000' dead I S
+row '0 rule 1 used <a/>' 'spots 2900' dead I S
+beyond '0 rule 1 used <a/>' 'spots 10000' dead I S
+row '1 rule 1 used <a/>' 'uncalled 1800' dead I S
 row '0 $' 'one_body 2600' run S D
 row '4 limit work 4000000' 'twice 22 0' run S D
 beyond '4 limit work 4000000' 'twice 22 5000' run S D
@@ -299,13 +317,13 @@ row '4 limit states 512' 'interleaves 70' valid I D
 row '4 limit pattern 65536' 'doubled 100' valid I D
 row '0 valid' 'stars 500 990' valid I D
 row '4 limit symbols 1024' 'names 1000000' valid I D
-beyond '0 valid' 'subsets 250 2000000' valid I D
+row '0 valid' 'subsets 250 2000000' valid I D
 beyond '0 valid' 'long_namespace 40000 500000' valid I D
 row '0 valid' 'references 1000000' valid I D
 row '3 refused D malformed at ' 'reference 18446744073709551681' valid I D
 beyond '3 refused D malformed at ' 'declarations 20000 40000' valid I D
 row '4 limit tag 65536' 'declarations 20000 40000' valid --stream 65536 I D
-row '0 valid' 'attributes 7000000' valid I D
+beyond '0 valid' 'attributes 7000000' valid I D
 row '0 valid' 'tags 192000' valid I D
 row '0 valid' 'tags 192000' valid --stream 65536 I D
 beyond '0 valid' 'chains 500' valid --stream 65536 I D
@@ -315,27 +333,24 @@ row '0 valid' 'unlike 50000' valid I D
 beyond '0 <r/>' 'alike_templates 50000' run S D
 
 # As long as a file may be, of one part.
-for part in text white comment cdata instruction value name brackets characters spaces references sections comments; do
+for part in text white comment cdata instruction value name brackets characters spaces empty references sections comments; do
   row '0 valid' "one $part 67108864" valid I D
 done
-beyond '0 valid' 'one empty 67108864' valid I D
 for part in text empty; do
   row '0 valid' "one $part 67108864" valid --stream 65536 I D
 done
 for part in value name; do
   row '4 limit tag 65536' "one $part 67108864" valid --stream 65536 I D
 done
-for part in identifier note lines; do
+for part in literal identifier note lines; do
   row '1 invalid' "one $part 67108864" valid I D
 done
-beyond '1 invalid' 'one literal 67108864' valid I D
 
 # The same of bytes without any form.
 row '3 refused I too-deep at 2000' 'marks ( 67108864' valid I D
 beyond '3 refused P too-deep at 124' 'marks ( 67108864' run P D
-for unit in '{' '*|'; do
-  row '3 refused P malformed at 124' "marks $unit 67108864" run P D
-done
+row '3 refused P malformed at 124' 'marks { 67108864' run P D
+beyond '3 refused P malformed at 124' 'marks *| 67108864' run P D
 for unit in '{' '*|' '<' '&' ']]' '-' '"' 13 128512; do
   row '3 refused S malformed at ' "marks $unit 67108864" run S D
   row '3 refused D malformed at ' "marks $unit 67108864" valid A D

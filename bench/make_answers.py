@@ -149,6 +149,8 @@ def answers(calls):
     calls.call("verify: no, by its form", 1, "rejected 1 form", "verify", i, o, s, d)
     calls.call("upgrade: yes", 0, "xslt-typecheck certificate 2", "upgrade", certificate)
     calls.call("upgrade: no", 1, "rejected 1 form", "upgrade", d)
+    calls.call("dead: yes", 0, "rule 1 used <a/>", "dead", i, s)
+    calls.call("dead: no", 1, "rule 1 dead", "dead", i, calls.file(sheet(rule("b", ""))))
     calls.call("run: yes", 0, "<r><x/></r>", "run", s, d)
     for words in (["valid"], ["valid", "--stream", "7"]):
         calls.call(f"{' '.join(words)}: yes", 0, "valid", *words, i, d)
@@ -159,7 +161,7 @@ def answers(calls):
     calls.call("same: no", 1, "different", "same", o, n)
     calls.call("demo: yes", 0, "safe trees 3 hedges *", "demo", 3)
     calls.call("usage", 2, "usage: *", "demo", 41)
-    lines = ["check ? ? ?", "prove ? ? ?", "verify ? ? ? ?", "upgrade ?", "run ? ?", "valid ? ?", "valid --stream 7 ? ?", "include ? ?", "same ? ?"]
+    lines = ["check ? ? ?", "prove ? ? ?", "verify ? ? ? ?", "upgrade ?", "dead ? ?", "run ? ?", "valid ? ?", "valid --stream 7 ? ?", "include ? ?", "same ? ?"]
     for line in lines:
         calls.call(f"{line.partition(' ?')[0]}: no file", 5, "cannot read nothing", line.replace("?", "nothing"))
     return i, o, s, d
@@ -179,6 +181,8 @@ def refusals(calls, i, o, s, d):
             calls.refused(command, f"place {words.index('?') + 1}", wrong, *words)
     for words in (["?", o, s, d], [i, "?", s, d], [i, o, "?", d]):
         calls.refused("verify", f"place {words.index('?') + 1}", wrong, *words)
+    for words in (["?", s], [i, "?"]):
+        calls.refused("dead", f"place {words.index('?') + 1}", wrong, *words)
     for command in ("include", "same"):
         for words in (["?", o], [i, "?"]):
             calls.refused(command, f"place {words.index('?') + 1}", wrong, *words)
@@ -205,6 +209,7 @@ def schema_limits(calls, o, s, d):
         for words in (["valid", file, d], ["valid", "--stream", "7", file, d], ["include", file, o], ["same", file, o]):
             calls.limit(f"{' '.join(words[:-2])}: {told}", told, *words)
         of_all(calls, told, file, o, s, d)
+        of_dead(calls, told, file, s)
     output = calls.file(f"element r {{ {', '.join(['text'] * 300)} }}")
     of_all(calls, "states 256", calls.file(SOURCE), output, s, d)
 
@@ -215,6 +220,11 @@ def of_all(calls, told, i, o, s, d):
         calls.limit(f"{words[0]}: {told}", told, *words)
 
 
+def of_dead(calls, told, i, s):
+    """A limit of `dead`, which takes no output schema."""
+    calls.limit(f"dead: {told}", told, "dead", i, s)
+
+
 def moves(count):
     """So many selects of nine states."""
     return "".join(f'<xsl:apply-templates select="a/a/a/a/a/a/a/a/a" mode="m{number}"/>' for number in range(count))
@@ -222,7 +232,7 @@ def moves(count):
 
 def sheet_limits(calls, i, o, d):
     """The limits of stylesheets."""
-    chain = "".join(named(number, f"<a>{call(number + 1)}</a>") for number in range(4100)) + named(4100, "")
+    chain = "".join(named(number, f"<xsl:copy>{call(number + 1)}</xsl:copy>") for number in range(4100)) + named(4100, "")
     sheets = {
         "symbols 1024": sheet("".join(rule(name, "<r/>") for name in names(1025))),
         "predicates 6": sheet("".join(rule(f"a[{name}]", "<r/>") for name in names(7))),
@@ -236,11 +246,20 @@ def sheet_limits(calls, i, o, d):
     for told, text in {**sheets, **deep}.items():
         file = calls.file(text)
         of_all(calls, told, i, o, file, d)
+        of_dead(calls, told, i, file)
         if told in sheets:
             calls.limit(f"run: {told}", told, "run", file, d)
     doubled = "".join(named(number, call(number + 1) * 2) for number in range(22)) + named(22, "t")
     calls.limit("run: work 4000000", "work 4000000", "run", calls.file(sheet(rule("/", call(0)) + doubled)), d)
     calls.limit("run: open 8000", "open 8000", "run", calls.file(deep["calls 8000"]), d)
+
+
+def places_told(calls, i, s, tree):
+    """What else `dead` tells: of declarations, of no places, and of a schema whose only document is too large."""
+    calls.call("dead: declarations", 0, "rule 1 used <a/>", "dead", f"dtd:a:{calls.file('<!ELEMENT a EMPTY>')}", s)
+    calls.call("dead: no places", 0, "places 0 dead 0", "dead", i, calls.file(sheet("")))
+    rules = rule("*", '<xsl:if test="*"><r/></xsl:if>') + rule("z", "<r/>")
+    calls.call("dead: too large", 1, "rule 1 used document-too-large", "dead", tree, calls.file(sheet(rules)))
 
 
 def other_limits(calls, i, o, s, d):
@@ -256,8 +275,10 @@ def other_limits(calls, i, o, s, d):
     tree = calls.file(f"{doubled} e11 = element e11 {{ empty }}")
     for command in ("check", "prove"):
         calls.limit(f"{command}: counterexample", "counterexample 2000", command, tree, calls.file(NARROW), s)
+    places_told(calls, i, s, tree)
     calls.limit("include: counterexample", "counterexample 2000", "include", tree, calls.file(NARROW))
     calls.limit("same: counterexample", "counterexample 2000", "same", tree, calls.file("element q { notAllowed }"))
+    of_dead(calls, "file 67108864", i, zeros)
     for words in (["valid", i, zeros], ["upgrade", zeros], ["run", s, zeros], ["verify", i, o, s, zeros], ["same", zeros, i]):
         calls.limit(f"{words[0]}: file", "file 67108864", *words)
     tag = calls.file(f"<a{' ' * 65536}/>")

@@ -13,6 +13,7 @@ What stands within one another, N deep:
   divisions N         `div`; balanced N: braces in an attribute
   particles N         parentheses of a declaration
   tests N             parentheses of a test; predicate N: of the test of one predicate; brackets N: predicates in predicates
+  ifs N               tests in a rule; spots N: as many beside one another; reach N: one that holds on N elements
   copies N M          copies around a test that is M deep; branches N M: other instructions, of which each takes four elements
   open N M            named templates that call one another, each within M copies, the last around a test that is 2,000 deep, on
                       a node that is 1,999 deep; applies N M: a rule that goes on within M copies, on N elements
@@ -150,6 +151,21 @@ def predicate(depth):
 
 def brackets(depth):
     return {"S": sheet(rule("a", f'<xsl:apply-templates select="a{within("[a", "", "]", depth)}"/>')), "D": "<a/>"}
+
+
+B = "start = element a { element b { empty }* }\n"
+
+
+def ifs(depth):
+    return {"I": B, "S": sheet(rule("a", within('<xsl:if test="b">', "<x/>", "</xsl:if>", depth))), "D": "<a><b/></a>"}
+
+
+def spots(count):
+    return {"I": B, "S": sheet(rule("a", test("b", "<x/>") * count)), "D": "<a><b/></a>"}
+
+
+def reach(depth):
+    return {"I": elements(1)["I"], "S": sheet(rule("/", test("/".join(["a"] * depth), "<x/>"))), "D": within("<a>", "", "</a>", depth)}
 
 
 def around(opening, closing, depth, tests_depth):
@@ -512,7 +528,7 @@ def levels(count, depth):
 
 KINDS = (
     elements, braces, groups, pluses, empties, suffixed, starts, classes, excepts, excepts_attribute, divisions, balanced,
-    particles, tests, predicate, brackets, copies, branches, applies, residues, rows, definitions, repeated_definitions, calls,
+    particles, tests, predicate, brackets, ifs, spots, reach, copies, branches, applies, residues, rows, definitions, repeated_definitions, calls,
     modes, uncalled, one_body, twice, one, marks, attributes, tags, long_namespace, references, reference, declarations, scopes,
     prefixes, prefixed, long_calls, schema_prefixes, chains, others, alike, alike_templates, unlike, names, optionals,
     interleaves, doubled, stars, subsets, nested, selects, alternatives, pairs, path, windows, ancestors, levels,

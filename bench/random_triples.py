@@ -269,4 +269,5 @@ def main():
     print(f"{told[0]} safe, {told[1]} not safe, {told[None]} passed over")
 
 
-main()
+if __name__ == "__main__":
+    main()

@@ -7,12 +7,13 @@ set -eu
 . "$(dirname "$0")/program.sh"
 seconds=${1:-5}
 wrong=0
-usage='usage: check|prove [--limit N] IN OUT SHEET; verify IN OUT SHEET CERT; run SHEET DOC; valid SCHEMA DOC; demo N; upgrade CERT; include A B; same A B; valid --stream N SCHEMA DOC'
+usage='usage: check|prove [--limit N] IN OUT SHEET; verify IN OUT SHEET CERT; run SHEET DOC; valid SCHEMA DOC; demo N; upgrade CERT; dead IN SHEET; include A B; same A B; valid --stream N SCHEMA DOC'
 commands='check input.rnc output.rnc sheet.xsl
 check --limit 9 input.rnc output.rnc sheet.xsl
 prove input.rnc output.rnc sheet.xsl
 verify input.rnc output.rnc sheet.xsl certificate
 upgrade certificate
+dead input.rnc sheet.xsl
 run sheet.xsl document.xml
 valid input.rnc document.xml
 valid --stream 7 input.rnc document.xml

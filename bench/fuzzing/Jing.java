@@ -8,8 +8,8 @@ import org.xml.sax.ErrorHandler;
 import org.xml.sax.SAXException;
 import org.xml.sax.SAXParseException;
 
-/** For each byte that comes, tells by jing of the document in the file `D` and the schema in the file `J`: `v` valid, `i`
- * invalid, `u` where one of them isn't read. */
+/** For each byte that comes, a number, tells by jing of the document in the file `D` and the schema in the file `J` of the folder
+ * of that number: `v` valid, `i` invalid, `u` where one of them isn't read. */
 class Jing {
   private static class Faults implements ErrorHandler {
     private boolean unread = false;
@@ -24,24 +24,24 @@ class Jing {
     }
   }
 
-  private static char answer() {
+  private static char answer(String folder) {
     Faults faults = new Faults();
     PropertyMapBuilder properties = new PropertyMapBuilder();
     properties.put(ValidateProperty.ERROR_HANDLER, faults);
     PropertyMap map = properties.toPropertyMap();
     ValidationDriver driver = new ValidationDriver(map, map, CompactSchemaReader.getInstance());
     try {
-      if (!driver.loadSchema(ValidationDriver.fileInputSource("J"))) return 'u';
-      boolean valid = driver.validate(ValidationDriver.fileInputSource("D"));
+      if (!driver.loadSchema(ValidationDriver.fileInputSource(folder + "/J"))) return 'u';
+      boolean valid = driver.validate(ValidationDriver.fileInputSource(folder + "/D"));
       return faults.unread ? 'u' : valid ? 'v' : 'i';
-    } catch (SAXException | IOException | StackOverflowError fault) {
+    } catch (SAXException | IOException | RuntimeException | Error fault) {
       return 'u';
     }
   }
 
   public static void main(String[] words) throws IOException {
-    while (System.in.read() >= 0) {
-      System.out.write(answer());
+    for (int order = System.in.read(); order >= 0; order = System.in.read()) {
+      System.out.write(answer(String.format("%03d", order)));
       System.out.flush();
     }
   }

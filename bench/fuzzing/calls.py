@@ -1,6 +1,9 @@
 """Calls of a program, each within bounds of time and memory, and the form that its answers have.
 
 The bounds are those of README and PROFILE: a text of some 100 kB takes at most 10 seconds and 1 GB.
+
+Whoever wants answers is a generator: it gives lists of words, a list for each call, and is sent their answers. So many go on
+together, each in a folder of its own: what all of them ask for is asked for before the first answer is waited for.
 """
 import os
 import re
@@ -13,10 +16,12 @@ from typing import NamedTuple
 SECONDS = 10
 KILOBYTES = 1 << 20
 STACK = 8 << 20
-# Of how many answers one is asked for twice, and where forks.c reads and writes.
-EVERY = 16
+# Of how many answers one is asked for twice; where forks.c reads and writes, and what it tells of a call.
+EVERY = 64
 ORDERS, REPLIES = 198, 199
-REPLY = struct.Struct("lll")
+REPLY = struct.Struct("lllll")
+# How many go on together.
+FOLDERS = 128
 
 LIMITS = {
     "file": "67108864", "pattern": "65536", "depth": "2000", "elements": "256", "states": "(512|256)", "symbols": "1024",
@@ -35,6 +40,7 @@ LIMITS_OF = {
     "upgrade": ["certificate"],
     "run": [*OF_SHEET, "work", "open"],
     "valid": [*OF_SCHEMA, "tag", "names"],
+    "dead": [*OF_ALL, "trees", "hedges", "outputs"],
     "include": [*OF_SCHEMA, "trees", "hedges", "counterexample"],
     "same": [*OF_SCHEMA, "trees", "hedges", "counterexample"],
 }
@@ -64,11 +70,13 @@ OPERANDS = {
     "upgrade": [None],
     "run": ["sheet", "document"],
     "valid": ["schema", "document"],
+    "dead": ["schema", "sheet"],
     "include": ["schema", "schema"],
     "same": ["schema", "schema"],
 }
 UNSAFE = rb"unsafe\ndocument [^\n]*\n(output [^\n]*|output-too-large)\n"
 CERTIFICATE = rb"xslt-typecheck certificate 2\n.*\nend\n"
+DEAD = rb"((rule|named|branch) [0-9]+ (dead|used [^\n]*)\n)*places [0-9]+ dead [0-9]+\n"
 REJECTED = rb"rejected [0-9]+ (form|fit|empty|text|append [0-9]+|wrap [^\n]*|root)\n"
 ANSWERS = {
     "check": [rb"safe trees [0-9]+ hedges [0-9]+ outputs [0-9]+\n", UNSAFE],
@@ -77,6 +85,7 @@ ANSWERS = {
     "upgrade": [CERTIFICATE, REJECTED],
     "run": [rb".*\n", rb"(?!)"],
     "valid": [rb"valid\n", rb"invalid\n"],
+    "dead": [DEAD, DEAD],
     "include": [rb"included trees [0-9]+ hedges [0-9]+\n", rb"not-included\ndocument [^\n]*\n"],
     "same": [rb"same\n", rb"different\n(first|second)-only [^\n]*\n"],
 }
@@ -102,12 +111,12 @@ def stop(*_):
 
 
 def within(seconds, work):
-    """What a function gives, or `TookLong`."""
-    signal.setitimer(signal.ITIMER_REAL, seconds)
+    """What a function gives, or `TookLong`, by seconds on a processor."""
+    signal.setitimer(signal.ITIMER_VIRTUAL, seconds)
     try:
         return work()
     finally:
-        signal.setitimer(signal.ITIMER_REAL, 0)
+        signal.setitimer(signal.ITIMER_VIRTUAL, 0)
 
 
 def started(program, words, actions, settings):
@@ -117,60 +126,125 @@ def started(program, words, actions, settings):
 
 
 class Waiting:
-    """A program with its words that waits where it begins, and at each call goes on in a copy of itself (forks.c)."""
+    """A program with its words that waits where it begins, and is called in one folder after another (forks.c)."""
 
     def __init__(self, library, program, words):
         orders, self.orders = os.pipe()
-        self.replies, replies = os.pipe()
+        replies_read, replies = os.pipe()
+        self.replies = open(replies_read, "rb", buffering=1 << 16)
         actions = [(os.POSIX_SPAWN_DUP2, orders, ORDERS), (os.POSIX_SPAWN_DUP2, replies, REPLIES)]
         self.process = started(program, words, actions, {"LD_PRELOAD": str(library)})
         os.close(orders)
         os.close(replies)
 
-    def ended(self):
-        """How another copy ends, its kilobytes, and its microseconds on a processor."""
-        os.write(self.orders, b".")
-        return REPLY.unpack(os.read(self.replies, REPLY.size))
+    def order(self, folder):
+        """Has it called in a folder."""
+        os.write(self.orders, bytes([folder]))
+
+    def answer(self):
+        """What it answered to the first order that no answer was asked for."""
+        ended, kilobytes, microseconds, told, complaint = REPLY.unpack(self.replies.read(REPLY.size))
+        status = os.waitstatus_to_exitcode(ended)
+        if status == -signal.SIGALRM:
+            status = None
+        return Answer(status, self.replies.read(told), self.replies.read(complaint), kilobytes, microseconds / 1e6)
 
     def end(self):
         os.close(self.orders)
+        self.replies.close()
         os.waitpid(self.process, 0)
 
 
 class Caller:
-    """Calls programs in the current directory, which it fills with files; some answers are asked for twice."""
+    """Calls a program in folders, which it fills with files; some answers are asked for twice."""
 
     def __init__(self, program):
         self.program = program
-        self.calls = self.answers = 0
+        self.top = Path.cwd()
+        self.calls = self.answers = self.folder = 0
         self.every = EVERY
-        self.sizes, self.waiting = {}, {}
+        self.folders = [str(self.top / f"{number:03}") for number in range(FOLDERS)]
+        for folder in self.folders:
+            os.mkdir(folder)
+        self.sizes = [{} for _ in self.folders]
+        self.waiting = {}
         self.library = Path("forks.so").resolve()
         subprocess.run(["cc", "-shared", "-fPIC", "-O1", "-o", self.library, Path(__file__).with_name("forks.c")], check=True)
-        signal.signal(signal.SIGALRM, stop)
+        signal.signal(signal.SIGVTALRM, stop)
 
     def end(self):
         """Ends the programs that wait."""
         for waiting in self.waiting.values():
             waiting.end()
 
-    def put(self, name, text):
-        """Makes a file."""
-        with open(name, "wb") as file:
-            file.write(text)
-        self.sizes[name] = len(text)
+    def enter(self, folder):
+        """Goes into the folder of a number."""
+        os.chdir(self.folders[folder])
+        self.folder = folder
 
-    def call(self, *words, program=None):
-        """What a program answers to words."""
-        self.calls += 1
-        key = program or self.program, *words
-        if key not in self.waiting:
-            self.waiting[key] = Waiting(self.library, key[0], words)
-        ended, kilobytes, microseconds = self.waiting[key].ended()
-        status = os.waitstatus_to_exitcode(ended)
-        if status == -signal.SIGALRM:
-            status = None
-        return Answer(status, contents("told"), contents("complaint"), kilobytes, microseconds / 1e6)
+    def put(self, name, text):
+        """Makes a file in the current folder."""
+        file = os.open(name, os.O_WRONLY | os.O_CREAT | os.O_TRUNC, 0o600)
+        os.write(file, text)
+        os.close(file)
+        self.sizes[self.folder][name] = len(text)
+
+    def put_everywhere(self, name, text):
+        """Makes a file in each folder."""
+        for folder in range(FOLDERS):
+            self.enter(folder)
+            self.put(name, text)
+
+    def waiting_for(self, words):
+        """What waits for calls with words."""
+        if words not in self.waiting:
+            os.chdir(self.top)
+            self.waiting[words] = Waiting(self.library, self.program, words)
+            self.enter(self.folder)
+        return self.waiting[words]
+
+    def together(self, works):
+        """What generators give at their end, of at most so many as there are folders, each in one of its own."""
+        found = [None] * len(works)
+        answers = dict.fromkeys(range(len(works)))
+        while answers:
+            asked = []
+            for folder, sent in answers.items():
+                self.enter(folder)
+                try:
+                    waiting = [self.waiting_for(words) for words in works[folder].send(sent)]
+                except StopIteration as end:
+                    found[folder] = end.value
+                    continue
+                for each in waiting:
+                    each.order(folder)
+                self.calls += len(waiting)
+                asked.append((folder, waiting))
+            answers = {folder: [each.answer() for each in waiting] for folder, waiting in asked}
+        return found
+
+    def call(self, *words):
+        """What the program answers to words."""
+        (found,) = yield [words]
+        return found
+
+    def answer(self, *words):
+        """An answer, and what is wrong with it, or None: its form, its bounds, or, of some, that another one comes the second
+        time."""
+        (found,) = yield from self.answers_to(words)
+        return found
+
+    def answers_to(self, *calls):
+        """The same of each of some calls."""
+        found = yield calls
+        return [(answer, self.wrong_or_other(answer, words)) for answer, words in zip(found, calls)]
+
+    def wrong_or_other(self, answer, words):
+        wrong = self.wrong(answer, words)
+        self.answers += 1
+        if wrong is None and self.answers % self.every == 0 and self.called_anew(*words) != answer[:3]:
+            return f"{words[0]} answers otherwise the second time"
+        return wrong
 
     def called_anew(self, *words):
         """How the program ends that is started anew, at other addresses and with its memory filled with another byte, and what
@@ -179,16 +253,6 @@ class Caller:
         actions = [(os.POSIX_SPAWN_OPEN, output, name, flags, 0o600) for output, name in ((1, "told"), (2, "complaint"))]
         _, status = os.waitpid(started(self.program, words, actions, {"MALLOC_PERTURB_": "165"}), 0)
         return os.waitstatus_to_exitcode(status), contents("told"), contents("complaint")
-
-    def answer(self, *words):
-        """An answer, and what is wrong with it, or None: its form, its bounds, or, of some, that another one comes the second
-        time."""
-        found = self.call(*words)
-        wrong = self.wrong(found, words)
-        self.answers += 1
-        if wrong is None and self.answers % self.every == 0 and self.called_anew(*words) != found[:3]:
-            wrong = f"{words[0]} answers otherwise the second time"
-        return found, wrong
 
     def wrong(self, answer, words):
         """What is wrong with the form of an answer, or with its bounds, or None."""
@@ -222,7 +286,7 @@ class Caller:
         kinds = ["declarations" if kind == "schema" and name.startswith("dtd:") else kind for kind in kinds]
         if not any(reason in REASONS[kind] for kind in kinds):
             return f"{command} refuses a {kinds[:1]} as {reason}"
-        if int(place) > self.sizes[name.rpartition(":")[2]]:
+        if int(place) > self.sizes[self.folder][name.rpartition(":")[2]]:
             return f"{command} refuses at a place behind the end"
         return None
 

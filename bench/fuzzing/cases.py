@@ -1,15 +1,17 @@
 """Cases at random: texts that are grown, real ones, and both changed."""
 import subprocess
 import sys
+from collections.abc import Generator
 from pathlib import Path
 
 import documents
 from change import changed
 from dtds import Dtd
 from grow import NAMES, DeclarationsGrower, DocumentGrower, Grower, SchemaGrower, SheetGrower
+from spots import SpotSheetGrower
 
 FAMILIES = ["report 3 2 2", "above 2 1 1", "copies 4", "dense 3 5", "wide 2 1 4", "wraps 2 4 2 4 0", "paths 6 2 2", "bodies 2 30", "sets 5 3"]
-KINDS = ["document", "schema", "declarations", "sheet", "certificate", "triple", "include"]
+KINDS = ["document", "schema", "declarations", "sheet", "certificate", "triple", "include", "dead"]
 
 
 def triple_in(folder):
@@ -39,14 +41,15 @@ def real_texts(top, triples):
 
 
 class Cases:
-    """Makes the texts of cases."""
+    """Makes the texts of cases: each by a generator, which may ask for answers (calls.py)."""
 
     def __init__(self, caller, top, folders):
         self.caller, self.triples = caller, list(real_triples(top, folders))
         self.real = real_texts(top, self.triples)
 
     def make(self, kind, chance):
-        return getattr(self, kind)(Grower(chance))
+        made = getattr(self, kind)(Grower(chance))
+        return (yield from made) if isinstance(made, Generator) else made
 
     def maybe_changed(self, grower, text, suffix, share):
         if not grower.likely(share):
@@ -71,17 +74,17 @@ class Cases:
     def schema(self, grower):
         text = self.text(grower, ".rnc", SchemaGrower(grower.chance).text)
         self.caller.put("A", text)
-        return {"A": text, "D": self.near(grower, "A", text)}
+        return {"A": text, "D": (yield from self.near(grower, "A", text))}
 
     def declarations(self, grower):
         text = self.text(grower, ".dtd", DeclarationsGrower(grower.chance).text)
         self.caller.put("T", text)
-        return {"T": text, "D": self.near(grower, "dtd:a:T", Dtd("a", text))}
+        return {"T": text, "D": (yield from self.near(grower, "dtd:a:T", Dtd("a", text)))}
 
     def near(self, grower, operand, schema):
         """A document that is valid or nearly so, where the schema is accepted, and any other one."""
         nodes, tree = grower.one(3, 8, 30), None
-        if self.caller.call("valid", operand, "empty.xml").status in (0, 1):
+        if (yield from self.caller.call("valid", operand, "empty.xml")).status in (0, 1):
             tree = documents.plainly(lambda: documents.valid_for(schema).grow(grower.chance, nodes))
         if tree is None or grower.likely(0.1):
             tree = DocumentGrower(grower.chance).tree(3)
@@ -102,6 +105,10 @@ class Cases:
             texts[name] = self.maybe_changed(grower, texts[name], ".xsl" if name == "S" else ".rnc", 1)
         return texts
 
+    def dead(self, grower):
+        source = SchemaGrower(grower.chance, 0.002).text().encode()
+        return {"I": source, "S": SpotSheetGrower(grower.chance, 0.002).text().encode()}
+
     def certificate(self, grower):
         """The certificate of a small triple, mostly changed."""
         for _ in range(30):
@@ -109,7 +116,7 @@ class Cases:
             texts = {"I": schemas.text().encode(), "O": schemas.text(True).encode(), "S": SheetGrower(grower.chance, 0).text().encode()}
             for name, text in texts.items():
                 self.caller.put(name, text)
-            proof = self.caller.call("prove", "--limit", "40", "I", "O", "S")
+            proof = yield from self.caller.call("prove", "--limit", "40", "I", "O", "S")
             if proof.status == 0 and len(proof.told) < 4000:
                 break
         else:

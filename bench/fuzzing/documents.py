@@ -7,7 +7,7 @@ from collections import Counter
 from functools import lru_cache
 from xml.parsers import expat
 
-from calls import within
+from calls import FOLDERS, within
 from dtds import schema_of
 from schemas import Numbered, holds, mentioned
 
@@ -78,7 +78,7 @@ def result_tree(text):
 def plainly(work):
     """What the plain readers make of texts that `typecheck` accepts, or None where they don't read one, or take long."""
     try:
-        return within(20, work)
+        return within(1, work)
     except Unread:
         return None
     except Exception as fault:
@@ -86,7 +86,7 @@ def plainly(work):
         return None
 
 
-@lru_cache(maxsize=4)
+@lru_cache(maxsize=FOLDERS + 4)
 def valid_for(text):
     """What tries and grows documents of a schema."""
     return Valid(text)
