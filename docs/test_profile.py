@@ -17,10 +17,10 @@ ANSWERS = Path("crates/tc_answer/src/answer.rt").read_text()
 COMMANDS = Path("crates/tc_answer/src/command.rt").read_text()
 STATUSES = Path("crates/tc_answer/src/status.rt").read_text()
 LIMITS = [Path("crates", crate, "src/limits.rt").read_text() for crate in ("tc_base", "tc_decide")]
-# the crates that refuse texts, each with how the title of its section in PROFILE begins
+# the crates that refuse texts, some together, with how the title of their section in PROFILE begins
 SECTIONS = {
     "tc_xml": "Documents",
-    "tc_stream": "Documents",
+    "tc_stream tc_tags": "Documents",
     "tc_rnc": "Schemas",
     "tc_dtd": "Declarations of elements as schemas",
     "tc_sheet": "Stylesheets",
@@ -79,9 +79,10 @@ class Refusals(unittest.TestCase):
         used = defaultdict(set)
         for file, text in code().items():
             if file.parts[1] != "tc_base":
-                used[file.parts[1]] |= {words[name] for name in re.findall(r"\bWhy::(\w+)", text)}
-        used = {crate: sorted(found) for crate, found in used.items() if found}
-        self.assertEqual(used, {crate: refused_in(title) for crate, title in SECTIONS.items()})
+                together = next((crates for crates in SECTIONS if file.parts[1] in crates.split()), file.parts[1])
+                used[together] |= {words[name] for name in re.findall(r"\bWhy::(\w+)", text)}
+        used = {crates: sorted(found) for crates, found in used.items() if found}
+        self.assertEqual(used, {crates: refused_in(title) for crates, title in SECTIONS.items()})
 
     def test_each_word_stands_in_one_table(self):
         first = [words_of(tables(section(title), "word | refused")[0]) for title in dict.fromkeys(SECTIONS.values())]
@@ -129,7 +130,7 @@ class Limits(unittest.TestCase):
 class Strangers(unittest.TestCase):
     def test_texts_that_cost_more_than_their_length(self):
         (rows,) = tables(section("Files of strangers"), "command | text | takes | why")
-        told = {(re.match("`(.*?)`", text)[1], command.split("`")[1]) for command, text, _, _ in rows}
+        told = {(re.match("`(.*?)`", text)[1].replace("\\|", "|"), command.split("`")[1]) for command, text, _, _ in rows}
         tried = re.findall(r"^beyond '.*?' '(.*?)' (valid --stream|\w+) ", Path("bench/hostile.sh").read_text(), re.M)
         self.assertEqual(told, set(tried))
 
