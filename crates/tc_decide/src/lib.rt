@@ -1,5 +1,6 @@
-//! Decides questions about texts in memory: whether a stylesheet is safe between two schemas, and which of its rules and
-//! branches no valid document instantiates. No file is read, and no line is written.
+//! Decides questions about texts in memory, each by one call: whether a stylesheet is safe between two schemas, and what
+//! certificates say of that; what its result is; which of its rules and branches no valid document instantiates; and whether
+//! a schema includes another. No file is read, and no line is written.
 #![tactic(auto)]
 
 mod certifying;

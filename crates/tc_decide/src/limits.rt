@@ -10,7 +10,7 @@ pub const GREATEST_LIMIT: u32 = 4_000;
 /// The most sets of pairs of states of the output in these rows.
 pub const MOST_OUTPUTS: u32 = 65_536;
 
-/// The most nodes of a document that is shown: of a counterexample, or of one that two schemas differ by.
+/// The most nodes of a document that is shown: a counterexample, one that two schemas differ by, or one that uses a spot.
 pub const MOST_SHOWN_NODES: u32 = 2_000;
 
 /// The most bytes of a tag of a document that comes in pieces.
