@@ -7,11 +7,8 @@ mutual
   -- a content particle: a name, or particles in parentheses, perhaps with a suffix (XML, 3.2.1, [47] to [50])
   pub data Particle : Type 0 where
     named : List ℕ → Particle
-    sequence : Particles → Particle
-    choice : Particles → Particle
-    optional : Particle → Particle
-    zero_or_more : Particle → Particle
-    one_or_more : Particle → Particle
+    sequence choice : Particles → Particle
+    optional zero_or_more one_or_more : Particle → Particle
 
   pub data Particles : Type 0 where
     no_more : Particles
@@ -19,8 +16,7 @@ mutual
 
 -- a content (XML, 3.2, [46])
 pub data Content : Type 0 where
-  nothing : Content
-  anything : Content
+  nothing anything : Content
   -- texts, and elements of these names (XML, 3.2.2, [51])
   mixed : List (List ℕ) → Content
   children : Particle → Content

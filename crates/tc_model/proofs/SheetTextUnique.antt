@@ -6,15 +6,15 @@ use Rattle.std.proofs.lemmas.Slice.Eq.{bytes_eq-Decides}
 use Rattle.tc_model.specs.Names.{ExpandedName}
 use Rattle.tc_model.specs.RawTrees.{Bound, RawTrees}
 use Rattle.tc_model.specs.XmlTextScopes.{ElementName}
-use Rattle.tc_model.specs.Sheets.{Path, Test, Body, no_instruction, value, value_of_self}
+use Rattle.tc_model.specs.Sheets.{Sheet, Path, Test, Body, no_instruction, value, value_of_self}
 use Rattle.tc_model.specs.PathTextPhrases.{NameMeans, Alternative}
 use Rattle.tc_model.specs.PathText.{SelectText, ValueText, PatternText, TestText}
 use Rattle.tc_model.specs.PathTextPriority.{PriorityText}
 use Rattle.tc_model.specs.SheetTextTrees.{WrittenBody, w_nothing, w_text, w_element, w_copy, w_apply, w_call, w_value, w_choose, w_each, WrittenBranches, w_otherwise, w_branch, Template, is_used}
 use Rattle.tc_model.specs.SheetTextPhrases as p
 use Rattle.tc_model.specs.SheetTextPhrases.{xsl_uri, IsXsl, value_of, IsBlank, AreCharacters, no_characters, characters, NameText, ElementNameText, Optional, left_out, given, Required, is_given, or_all_children, with_priority, or_none, Tag, tag, IsTag, Instruction, i_apply, i_call, i_value, i_each, i_if, i_choose, i_text, i_copy, i_element, i_attribute, i_copy_of, instruction_of, IsBody, IsInstruction, AreBranches, IsTemplate, AreTemplates, IsStylesheet}
-use Rattle.tc_model.specs.SheetText.{sheet_of, StandingCall, calls_of, IsDefined, IsUndefined, IsLoop, IsFirst, of_undefined, of_loop}
-use Rattle.tc_model.specs.SheetTextLaws.{HasOneSheet, HasOneSheetFault, HasNoSheet}
+use Rattle.tc_model.specs.SheetText.{SheetMeans, SheetText, sheet_of, StandingCall, calls_of, IsDefined, IsUndefined, IsLoop, IsFirst, of_undefined, of_loop}
+use Rattle.tc_model.specs.SheetTextLaws.{HasOneSheetFault, HasNoSheet}
 use Rattle.std.proofs.lemmas.List.Elements.{All-tail}
 use Rattle.tc_model.proofs.XmlTextPhrases.{qname_unique}
 use Rattle.tc_model.proofs.XmlTextUnique.{element_name_unique}
@@ -182,8 +182,15 @@ templates_unique (p.past_other u v a) (p.past_other w x b) = templates_unique a 
 pub stylesheet_unique : {h : RawTrees} {ts us : List Template} → IsStylesheet h ts → IsStylesheet h us → ts ≡ us
 stylesheet_unique (p.a_stylesheet n o v a) (p.a_stylesheet m q w b) = templates_unique a b
 
-pub one_sheet : HasOneSheet
-one_sheet raw s t a b = a.means ∙ (ap (λ ts. sheet_of (filter is_used ts)) (stylesheet_unique a.written b.written) ∙ sym b.means)
+-- a raw tree means one stylesheet at most, which is the one of a stylesheet without a fault
+pub one_sheet_meaning : {raw : RawTrees} {s t : Sheet} → SheetMeans raw s → SheetMeans raw t → s ≡ t
+one_sheet_meaning a b = a.means ∙ (ap (λ ts. sheet_of (filter is_used ts)) (stylesheet_unique a.written b.written) ∙ sym b.means)
+
+pub sheet_means : {raw : RawTrees} {s : Sheet} → SheetText raw s → SheetMeans raw s
+sheet_means a = record { templates = a.templates; written = a.written; means = a.means }
+
+pub one_sheet : (raw : RawTrees) (s t : Sheet) → SheetText raw s → SheetText raw t → s ≡ t
+one_sheet raw s t a b = one_sheet_meaning (sheet_means a) (sheet_means b)
 
 -- the first of a list for which something holds
 front_is : {X : Type 0} (P : X → Type 0) (before later : List X) (x y : X) (after rest : List X) → before ++ (x ∷ after) ≡ later ++ (y ∷ rest) → All (λ z. P z → ⊥) before → All (λ z. P z → ⊥) later → P x → P y → x ≡ y

@@ -153,7 +153,8 @@ pub lawful_syntax : HasLawfulSyntax
 lawful_syntax bytes s a = (spells_lawful a, a.end)
 
 pub lawful_grammar : HasLawfulGrammar
-lawful_grammar bytes h (s, spells, a) =
+lawful_grammar bytes h (s, spells, simplifies) =
+    let a = simplifies.is_grammar in
     let lawful = spells_lawful spells in
     let has : (place : ℕ) (c : SyntaxClass) (p : SyntaxPattern) → Reached s (element place c p) → Has a.numbered (record { place = place; names = c; content = p }) =
     λ place c p r. has_from_index a.numbered (record { place = place; names = c; content = p }) (a.all place c p r) in

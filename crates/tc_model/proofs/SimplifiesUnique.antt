@@ -7,7 +7,8 @@ use Rattle.tc_model.specs.Grammars.{Pattern, Patterns, ElementPattern, Grammar}
 use Rattle.tc_model.specs.CompactSyntaxTrees.{SyntaxPattern, empty, text, attribute, element, mixed, optional, zero_or_more, one_or_more, group, interleave, SyntaxPatterns, Definition, Syntax}
 use Rattle.tc_model.specs.SimplifiesParts.{definitions_of, joined_definitions, IsAmong, Below, part, reference, further, Reached}
 use Rattle.tc_model.specs.SimplifiesFaults.{may_start, first_definition}
-use Rattle.tc_model.specs.Simplifies.{Element, name_class, both, Becomes, an_empty, a_not_allowed, a_text, an_attribute, a_reference, an_element, a_mixed, an_optional, a_zero_or_more, a_one_or_more, a_group, a_choice, an_interleave, AllBecome, none_left, one_more, ElementsBecome, no_element, next, AreAscending, Simplifies}
+use Rattle.tc_model.specs.Simplifies.{Element, name_class, both, Becomes, an_empty, a_not_allowed, a_text, an_attribute, a_reference, an_element, a_mixed, an_optional, a_zero_or_more, a_one_or_more, a_group, a_choice, an_interleave, AllBecome, none_left, one_more, ElementsBecome, no_element, next, AreAscending, IsGrammarOf, Simplifies}
+use Rattle.tc_model.specs.RncText.{RncMeans, RncText}
 use Rattle.tc_model.specs.SimplifiesLaws.{IsStart, AreStarts, HasOneSyntax, HasOneGrammar, HasOneRncText, HasLawfulStart}
 use Rattle.tc_model.proofs.CompactSyntaxClassesUnique.{same_some, some_none}
 use Rattle.tc_model.proofs.CompactSyntaxUnique.{spells_unique}
@@ -102,11 +103,12 @@ elements_unique (next {e = e} {ps = ps} a m) (next {p = r} b n) =
     let one : Pattern → ElementPattern = λ z. record { names = name_class e.names; content = z } in
     ap (λ z. one z ∷ ps) (becomes_unique a b) ∙ ap (λ z. one r ∷ z) (elements_unique m n)
 
-reached_within : {s : Syntax} {h k : Grammar} (a : Simplifies s h) (b : Simplifies s k) (e : Element) → Has a.numbered e → Has b.numbered e
+reached_within : {s : Syntax} {h k : Grammar} (a : IsGrammarOf s h) (b : IsGrammarOf s k) (e : Element) → Has a.numbered e → Has b.numbered e
 reached_within {s} a b e m = has_from_index b.numbered e (b.all e.place e.names e.content (all_at (λ z. Reached s (element z.place z.names z.content)) a.reached m))
 
-pub simplifies_unique : {s : Syntax} {h k : Grammar} → Simplifies s h → Simplifies s k → h ≡ k
-simplifies_unique {s} {h} {k} a b =
+-- also where it has a fault
+pub grammars_unique : {s : Syntax} {h k : Grammar} → IsGrammarOf s h → IsGrammarOf s k → h ≡ k
+grammars_unique {s} {h} {k} a b =
     let same = same_lists a.numbered b.numbered a.ascending b.ascending (reached_within a b) (reached_within b a) in
     let start = same_some a.is_start b.is_start in
     let starts = becomes_unique a.start_becomes (subst (λ z. Becomes s z a.start k.start) (sym same) (subst (λ z. Becomes s b.numbered z k.start) (sym start) b.start_becomes)) in
@@ -114,17 +116,24 @@ simplifies_unique {s} {h} {k} a b =
     let full : Pattern → List ElementPattern → Grammar = λ z w. record { start = z; elements = w } in
     ap (λ z. full z h.elements) starts ∙ ap (full k.start) elements
 
+pub simplifies_unique : {s : Syntax} {h k : Grammar} → Simplifies s h → Simplifies s k → h ≡ k
+simplifies_unique a b = grammars_unique a.is_grammar b.is_grammar
+
 pub one_syntax : HasOneSyntax
 one_syntax bytes s t a b = spells_unique a b
 
 pub one_grammar : HasOneGrammar
-one_grammar s h k a b = simplifies_unique a b
+one_grammar s h k a b = grammars_unique a b
 
-pub one_rnc_text : HasOneRncText
-one_rnc_text bytes h k a b =
-    let (s, spells, simplifies) = a in
-    let (t, spells', simplifies') = b in
-    simplifies_unique simplifies (subst (λ z. Simplifies z k) (sym (spells_unique spells spells')) simplifies')
+-- a text means one grammar at most, which is the one that it spells
+pub one_rnc_meaning : HasOneRncText
+one_rnc_meaning bytes h k (s, spells, is) (t, spells', is') = grammars_unique is (subst (λ z. IsGrammarOf z k) (sym (spells_unique spells spells')) is')
+
+pub rnc_means : {bytes : List ℕ} {h : Grammar} → RncText bytes h → RncMeans bytes h
+rnc_means (s, spells, a) = (s, spells, a.is_grammar)
+
+pub one_rnc_text : (bytes : List ℕ) (h k : Grammar) → RncText bytes h → RncText bytes k → h ≡ k
+one_rnc_text bytes h k a b = one_rnc_meaning bytes h k (rnc_means a) (rnc_means b)
 
 -- where all that stands below `start` may, so does what it becomes
 module _ (s : Syntax) (start : SyntaxPattern) (ok : (q : SyntaxPattern) → (q ≡ start) ⊎ Below s start q → may_start q ≡ true) where
@@ -158,12 +167,15 @@ first_exists (d ∷ ds) e = (d.place, refl)
 
 pub lawful_start : HasLawfulStart
 lawful_start s h a =
-    let (place, first) = first_exists (definitions_of s.definitions []) a.is_start in
-    starts s a.start (may place first) (inl refl) a.start_becomes
+    let (place, first) = first_exists (definitions_of s.definitions []) b.is_start in
+    starts s b.start (may place first) (inl refl) b.start_becomes
   where
-    may : (place : ℕ) → first_definition (definitions_of s.definitions []) ≡ Some place → (q : SyntaxPattern) → (q ≡ a.start) ⊎ Below s a.start q → may_start q ≡ true
+    b : IsGrammarOf s h
+    b = a.is_grammar
+
+    may : (place : ℕ) → first_definition (definitions_of s.definitions []) ≡ Some place → (q : SyntaxPattern) → (q ≡ b.start) ⊎ Below s b.start q → may_start q ≡ true
     may place first q at = by (may_start q) refl
       where
         by : (x : Bool) → may_start q ≡ x → may_start q ≡ true
         by true e = e
-        by false e = absurd (a.faultless.start place (record { start = a.start; other = q; is_start = a.is_start; below = at; bad = e; first = first }))
+        by false e = absurd (a.faultless.start place (record { start = b.start; other = q; is_start = b.is_start; below = at; bad = e; first = first }))

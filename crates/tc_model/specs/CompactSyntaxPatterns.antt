@@ -14,9 +14,7 @@ use Rattle.tc_model.specs.CompactSyntaxNames.{IsWord, IsMark, identifier, ClassA
 
 -- a comma, a bar or an ampersand between items
 pub data Connector : Type 0 where
-  comma : Connector
-  bar : Connector
-  ampersand : Connector
+  comma bar ampersand : Connector
 
 abbrev pub joined_by : Connector → SyntaxPatterns → SyntaxPattern
 joined_by comma ps = group ps
@@ -33,9 +31,7 @@ connector_at (t ∷ tokens) = connector_of t.word
 
 -- a question mark, an asterisk or a plus sign after an item
 pub data Suffix : Type 0 where
-  question_mark : Suffix
-  asterisk : Suffix
-  plus_sign : Suffix
+  question_mark asterisk plus_sign : Suffix
 
 abbrev pub suffixed : Suffix → SyntaxPattern → SyntaxPattern
 suffixed question_mark p = optional p

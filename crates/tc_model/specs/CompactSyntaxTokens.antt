@@ -12,17 +12,12 @@ use Rattle.tc_model.specs.XmlTextBytes.{place_of, length_before, IsQuote, Litera
 use Rattle.tc_model.specs.XmlTextNames.{NcNameAt}
 
 pub data Word : Type 0 where
-  -- an NCName, which may be a keyword
-  a_name : List ℕ → Word
-  -- a backslash and an NCName, which then is no keyword
-  escaped : List ℕ → Word
+  -- an NCName, which may be a keyword; a backslash and an NCName, which then is no keyword; `p:*`
+  a_name escaped all_of : List ℕ → Word
   -- `p:n`
   prefixed : List ℕ → List ℕ → Word
-  -- `p:*`
-  all_of : List ℕ → Word
-  literal : List ℕ → Word
-  -- a literal in three quotes
-  long_literal : List ℕ → Word
+  -- between quotes, and between three quotes
+  literal long_literal : List ℕ → Word
   -- a character that stands for itself
   mark : ℕ → Word
 

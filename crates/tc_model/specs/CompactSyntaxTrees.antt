@@ -16,23 +16,15 @@ mutual
 
 mutual
   pub data SyntaxPattern : Type 0 where
-    empty : SyntaxPattern
-    not_allowed : SyntaxPattern
-    text : SyntaxPattern
     -- of an attribute nothing is kept
-    attribute : SyntaxPattern
+    empty not_allowed text attribute : SyntaxPattern
     -- a reference: the name, and its place
     ref : List ℕ → ℕ → SyntaxPattern
     -- the place of the word `element`, the name class and the content
     element : ℕ → SyntaxClass → SyntaxPattern → SyntaxPattern
-    mixed : SyntaxPattern → SyntaxPattern
-    optional : SyntaxPattern → SyntaxPattern
-    zero_or_more : SyntaxPattern → SyntaxPattern
-    one_or_more : SyntaxPattern → SyntaxPattern
+    mixed optional zero_or_more one_or_more : SyntaxPattern → SyntaxPattern
     -- two or more items under one connector
-    group : SyntaxPatterns → SyntaxPattern
-    choice : SyntaxPatterns → SyntaxPattern
-    interleave : SyntaxPatterns → SyntaxPattern
+    group choice interleave : SyntaxPatterns → SyntaxPattern
 
   pub data SyntaxPatterns : Type 0 where
     no_more : SyntaxPatterns
@@ -40,9 +32,7 @@ mutual
 
 -- the operator of a definition: `=`, `|=` or `&=`
 pub data Joins : Type 0 where
-  plain : Joins
-  by_choice : Joins
-  by_interleave : Joins
+  plain by_choice by_interleave : Joins
 
 -- a definition, with the place of its first byte; that of `start` has the empty name, which no reference has
 pub record Definition : Type 0 where

@@ -34,14 +34,10 @@ InClass c n = IsTrue (in_class c n)
 
 mutual
   pub data Pattern : Type 0 where
-    empty : Pattern
-    not_allowed : Pattern
-    text : Pattern
+    empty not_allowed text : Pattern
     -- an element pattern by its number, from 1
     ref : ℕ → Pattern
-    group : Patterns → Pattern
-    choice : Patterns → Pattern
-    interleave : Patterns → Pattern
+    group choice interleave : Patterns → Pattern
     one_or_more : Pattern → Pattern
 
   pub data Patterns : Type 0 where

@@ -22,15 +22,13 @@ all_children = alternative (step false any_node always no_step) no_alternative
 
 -- the built-in rules (XSLT, 5.8): the children of the root and of elements in the same mode; a text is copied
 abbrev pub built_in : ℕ → Node → Body
-built_in m (whole doc) = apply all_children m no_instruction
-built_in m (one (an_element n kids)) = apply all_children m no_instruction
 built_in m (one (a_text s)) = value_of_self no_instruction
+built_in m _ = apply all_children m no_instruction
 
 -- the root, or an element
 abbrev pub IsInner : Node → Type 0
-IsInner (whole doc) = Unit {0}
-IsInner (one (an_element n kids)) = Unit {0}
 IsInner (one (a_text s)) = ⊥
+IsInner _ = Unit {0}
 
 -- a rule, where it fits, before the best of those that come later
 abbrev pub better : Bool → Rule → Option Rule → Option Rule

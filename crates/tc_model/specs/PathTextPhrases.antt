@@ -57,15 +57,12 @@ pub data OtherNodeAt : List Token → List Token → Type 0 where
 
 -- how steps are written: a node test alone, or otherwise; or with an attribute step as the last, so that they select nothing in a tree
 pub data Form : Type 0 where
-  lone : Form
-  longer : Form
-  dropped : Form
+  lone longer dropped : Form
 
 -- the form behind one more step
 abbrev pub lengthened : Form → Form
-lengthened lone = longer
-lengthened longer = longer
 lengthened dropped = dropped
+lengthened _ = longer
 
 -- the form of a step with these predicates
 abbrev pub form_with : Tests → Form
@@ -86,14 +83,12 @@ disjunction (test t (test u us)) = any_of (test t (test u us))
 
 -- an alternative before others, unless it is dropped
 abbrev pub alternative_before : Form → Steps → Path → Path
-alternative_before lone ss p = alternative ss p
-alternative_before longer ss p = alternative ss p
 alternative_before dropped ss p = p
+alternative_before _ ss p = alternative ss p
 
 abbrev pub is_dropped : Form → Bool
-is_dropped lone = false
-is_dropped longer = false
 is_dropped dropped = true
+is_dropped _ = false
 
 module _ (scope : List Bound) where
   mutual
@@ -168,24 +163,19 @@ pub record Alternative : Type 0 where
 abbrev pub priority_of_test : NodeTest → ℤ
 priority_of_test (of_name n) = pos 0
 priority_of_test (of_namespace uri) = negsuc 2499
-priority_of_test any_element = negsuc 4999
-priority_of_test any_text = negsuc 4999
-priority_of_test any_node = negsuc 4999
+priority_of_test _ = negsuc 4999
 
 abbrev pub priority_otherwise : ℤ
 priority_otherwise = pos 5000
 
 abbrev pub default_priority : Form → Steps → ℤ
-default_priority lone no_step = priority_otherwise
 default_priority lone (step deep t when ss) = priority_of_test t
-default_priority longer ss = priority_otherwise
-default_priority dropped ss = priority_otherwise
+default_priority _ _ = priority_otherwise
 
 -- an alternative by itself, or none where it is dropped
 abbrev pub unless_dropped : Form → Steps → ℤ → List Alternative
-unless_dropped lone ss priority = record { pattern = steps_pattern ss; priority = priority } ∷ []
-unless_dropped longer ss priority = record { pattern = steps_pattern ss; priority = priority } ∷ []
 unless_dropped dropped ss priority = []
+unless_dropped _ ss priority = record { pattern = steps_pattern ss; priority = priority } ∷ []
 
 -- nothing follows, or a further alternative
 pub data EndsAlternative : List Token → Type 0 where

@@ -6,32 +6,16 @@ use Rattle.tc_model.specs.XmlTextBytes.{after_white, LiteralAt}
 use Rattle.tc_model.specs.XmlTextNames.{NcNameAt, QualifiedName, QNameAt}
 
 pub data Mark : Type 0 where
-  star : Mark
-  slash : Mark
-  slashes : Mark
-  bar : Mark
-  open_parenthesis : Mark
-  close_parenthesis : Mark
-  open_bracket : Mark
-  close_bracket : Mark
-  at : Mark
-  dot : Mark
-  dots : Mark
-  colons : Mark
-  comma : Mark
-  -- `=`, `!=`, `<`, `<=`, `>`, `>=`
-  comparison : Mark
-  -- `+`, `-`
-  arithmetic : Mark
+  star slash slashes bar open_parenthesis close_parenthesis open_bracket close_bracket at dot dots colons comma : Mark
+  -- `=`, `!=`, `<`, `<=`, `>`, `>=`; and `+`, `-`
+  comparison arithmetic : Mark
 
 pub data Token : Type 0 where
   name : QualifiedName → Token
   -- `p:*`
   all_of_prefix : List ℕ → Token
   mark : Mark → Token
-  number : Token
-  literal : Token
-  variable : Token
+  number literal variable : Token
 
 -- the spelling of a mark in one character, or in two
 pub record Single : Type 0 where
@@ -118,30 +102,12 @@ pub data Tokens : List ℕ → List Token → Type 0 where
   one_more : {bs rest : List ℕ} {t : Token} {ts : List Token} → TokenAt (after_white bs) t rest → Tokens rest ts → Tokens bs (t ∷ ts)
 
 -- how many parentheses and brackets are open behind a token, where so many are open before it
-abbrev pub open_behind_mark : ℕ → Mark → ℕ
-open_behind_mark before star = before
-open_behind_mark before slash = before
-open_behind_mark before slashes = before
-open_behind_mark before bar = before
-open_behind_mark before open_parenthesis = before + 1
-open_behind_mark before close_parenthesis = before - 1
-open_behind_mark before open_bracket = before + 1
-open_behind_mark before close_bracket = before - 1
-open_behind_mark before at = before
-open_behind_mark before dot = before
-open_behind_mark before dots = before
-open_behind_mark before colons = before
-open_behind_mark before comma = before
-open_behind_mark before comparison = before
-open_behind_mark before arithmetic = before
-
 abbrev pub open_behind : ℕ → Token → ℕ
-open_behind before (mark m) = open_behind_mark before m
-open_behind before (name n) = before
-open_behind before (all_of_prefix p) = before
-open_behind before number = before
-open_behind before literal = before
-open_behind before variable = before
+open_behind before (mark open_parenthesis) = before + 1
+open_behind before (mark open_bracket) = before + 1
+open_behind before (mark close_parenthesis) = before - 1
+open_behind before (mark close_bracket) = before - 1
+open_behind before _ = before
 
 -- the most parentheses and brackets that are open at once, where so many are open before
 abbrev pub most_open : ℕ → List Token → ℕ

@@ -7,14 +7,11 @@ use Rattle.tc_model.specs.Sheets.{NodeTest, of_name, of_namespace, any_element, 
 -- a tree passes a node test (XPath, 2.3)
 abbrev pub passes : NodeTest → Tree → Bool
 passes (of_name n) (an_element m kids) = same_name n m
-passes (of_name n) (a_text s) = false
 passes (of_namespace uri) (an_element m kids) = bytes_eq uri m.uri
-passes (of_namespace uri) (a_text s) = false
 passes any_element (an_element m kids) = true
-passes any_element (a_text s) = false
-passes any_text (an_element m kids) = false
 passes any_text (a_text s) = true
 passes any_node t = true
+passes _ _ = false
 
 -- no tree is left
 abbrev pub is_end : List Tree → Bool

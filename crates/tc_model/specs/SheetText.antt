@@ -170,8 +170,16 @@ IsUndefined templates c = IsDefined templates c.call → ⊥
 abbrev pub IsLoop : List Template → StandingCall → Type 0
 IsLoop templates c = (n : ExpandedName) × (c.template.name ≡ Some n) × ((c.call.name ≡ n) ⊎ Reaches templates c.call.name n)
 
--- The templates of the whole text. No two have one name (6); all calls in those that can be used are to a template of that name (6), and none
--- leads back to the template in which it stands (this project's choice: recursive named templates aren't read, also where they would end).
+-- The stylesheet of the templates that can be used. A raw tree means one at most, also where two templates have one name, of which calls take the
+-- first, and where a call is of no template or leads back.
+pub record SheetMeans (raw : RawTrees) (sheet : Sheet) : Type 0 where
+  pub templates : List Template
+  pub written : IsStylesheet raw templates
+  pub means : sheet ≡ sheet_of (filter is_used templates)
+
+-- A stylesheet without a fault, and what it means. No two templates of the whole text have one name (6); all calls in those that can be used are
+-- to a template of that name (6), and none leads back to the template in which it stands (this project's choice: recursive named templates aren't
+-- read, also where they would end).
 pub record SheetText (raw : RawTrees) (sheet : Sheet) : Type 0 where
   pub templates : List Template
   pub written : IsStylesheet raw templates

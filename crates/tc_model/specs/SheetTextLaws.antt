@@ -4,14 +4,15 @@ use Rattle.tc_model.specs.RawTrees.{RawTrees}
 use Rattle.tc_model.specs.Sheets.{Sheet}
 use Rattle.tc_model.specs.SheetTextTrees.{Template}
 use Rattle.tc_model.specs.SheetTextPhrases.{IsStylesheet}
-use Rattle.tc_model.specs.SheetText.{SheetText, SheetFault, SheetFails}
+use Rattle.tc_model.specs.SheetText.{SheetMeans, SheetText, SheetFault, SheetFails}
 
 -- as it is written, too: one list of templates
 abbrev pub HasOneListOfTemplates : Type 0
 HasOneListOfTemplates = (raw : RawTrees) (ts us : List Template) → IsStylesheet raw ts → IsStylesheet raw us → ts ≡ us
 
+-- one stylesheet at most, also where templates or calls are at fault
 abbrev pub HasOneSheet : Type 0
-HasOneSheet = (raw : RawTrees) (s t : Sheet) → SheetText raw s → SheetText raw t → s ≡ t
+HasOneSheet = (raw : RawTrees) (s t : Sheet) → SheetMeans raw s → SheetMeans raw t → s ≡ t
 
 -- one fault at most of calls, at one place
 abbrev pub HasOneSheetFault : Type 0

@@ -96,17 +96,7 @@ pub record IsTag (local : List ℕ) (locals : List (List ℕ)) (t : Tag) : Type 
 
 -- the instructions that are read
 pub data Instruction : Type 0 where
-  i_apply : Instruction
-  i_call : Instruction
-  i_value : Instruction
-  i_each : Instruction
-  i_if : Instruction
-  i_choose : Instruction
-  i_text : Instruction
-  i_copy : Instruction
-  i_element : Instruction
-  i_attribute : Instruction
-  i_copy_of : Instruction
+  i_apply i_call i_value i_each i_if i_choose i_text i_copy i_element i_attribute i_copy_of : Instruction
 
 pub record NamedInstruction : Type 0 where
   pub local : List ℕ
@@ -117,16 +107,9 @@ named local i = record { local = local; instruction = i }
 
 abbrev pub instructions : List NamedInstruction
 instructions =
-    named (codes "apply-templates") i_apply
-    ∷ named (codes "call-template") i_call
-    ∷ named (codes "value-of") i_value
-    ∷ named (codes "for-each") i_each
-    ∷ named (codes "if") i_if
-    ∷ named (codes "choose") i_choose
-    ∷ named (codes "text") i_text
-    ∷ named (codes "copy") i_copy
-    ∷ named (codes "element") i_element
-    ∷ named (codes "attribute") i_attribute
+    named (codes "apply-templates") i_apply ∷ named (codes "call-template") i_call ∷ named (codes "value-of") i_value
+    ∷ named (codes "for-each") i_each ∷ named (codes "if") i_if ∷ named (codes "choose") i_choose ∷ named (codes "text") i_text
+    ∷ named (codes "copy") i_copy ∷ named (codes "element") i_element ∷ named (codes "attribute") i_attribute
     ∷ named (codes "copy-of") i_copy_of ∷ []
 
 abbrev pub instruction_in : List NamedInstruction → List ℕ → Option Instruction

@@ -7,9 +7,7 @@ use Rattle.tc_model.specs.Names.{ExpandedName}
 pub data NodeTest : Type 0 where
   of_name : ExpandedName → NodeTest
   of_namespace : List ℕ → NodeTest
-  any_element : NodeTest
-  any_text : NodeTest
-  any_node : NodeTest
+  any_element any_text any_node : NodeTest
 
 mutual
   -- each step: whether `//` stands before it, its node test, and its predicates as one test
@@ -23,12 +21,10 @@ mutual
     alternative : Steps → Path → Path
 
   pub data Test : Type 0 where
-    always : Test
-    never : Test
+    always never : Test
     has : Path → Test
     negated : Test → Test
-    all_of : Tests → Test
-    any_of : Tests → Test
+    all_of any_of : Tests → Test
 
   pub data Tests : Type 0 where
     no_test : Tests

@@ -69,14 +69,18 @@ abbrev pub AreAscending : List Element → Type 0
 AreAscending [] = Unit {0}
 AreAscending (e ∷ es) = AllByRecursion (λ f. e.place < f.place) es × AreAscending es
 
--- A schema without a fault, and its grammar: the elements that are reached from `start`, in the order of their words, are its element patterns.
-pub record Simplifies (s : Syntax) (grammar : Grammar) : Type 0 where
+-- The grammar for which a schema stands: the elements that are reached from `start`, in the order of their words, are its element patterns.
+pub record IsGrammarOf (s : Syntax) (grammar : Grammar) : Type 0 where
   pub numbered : List Element
   pub start : SyntaxPattern
-  pub faultless : IsFaultless s
   pub ascending : AreAscending numbered
   pub reached : AllByRecursion (λ e. Reached s (element e.place e.names e.content)) numbered
   pub all : (place : ℕ) (c : SyntaxClass) (p : SyntaxPattern) → Reached s (element place c p) → Contains numbered (record { place = place; names = c; content = p })
   pub is_start : pattern_of s [] ≡ Some start
   pub start_becomes : Becomes s numbered start grammar.start
   pub elements_become : ElementsBecome s numbered numbered grammar.elements
+
+-- a schema without a fault, and its grammar
+pub record Simplifies (s : Syntax) (grammar : Grammar) : Type 0 where
+  pub faultless : IsFaultless s
+  pub is_grammar : IsGrammarOf s grammar

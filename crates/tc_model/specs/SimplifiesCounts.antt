@@ -1,5 +1,6 @@
 -- How large a grammar is, and how large it may be: limits of this project's choice.
 use Rattle.std.specs.Prelude.{ℕ, ◌+◌, ◌≤◌, ◌<◌, length, List, [], ◌∷◌, map, sum, max}
+use Rattle.tc_base.specs.declared.limits.TheConstants.{MOST_PATTERN_NODES, GREATEST_PATTERN_DEPTH, MOST_ELEMENT_PATTERNS}
 use Rattle.tc_model.specs.Grammars.{Pattern, group, choice, interleave, one_or_more, Patterns, no_more, more, Grammar}
 
 abbrev mutual
@@ -42,13 +43,13 @@ grammar_depth g = max (pattern_depth g.start) (greatest (map (λ e. pattern_dept
 
 -- the most nodes, the greatest depth and the most element patterns
 abbrev pub most_nodes : ℕ
-most_nodes = 65536
+most_nodes = MOST_PATTERN_NODES
 
 abbrev pub greatest_depth : ℕ
-greatest_depth = 2000
+greatest_depth = GREATEST_PATTERN_DEPTH
 
 abbrev pub most_elements : ℕ
-most_elements = 256
+most_elements = MOST_ELEMENT_PATTERNS
 
 pub record IsWithinCounts (g : Grammar) : Type 0 where
   pub nodes : grammar_nodes g ≤ most_nodes
@@ -57,9 +58,7 @@ pub record IsWithinCounts (g : Grammar) : Type 0 where
 
 -- which of these a grammar passes
 pub data Count : Type 0 where
-  nodes : Count
-  depth : Count
-  elements : Count
+  nodes depth elements : Count
 
 -- The count that a grammar passes: the first of these, in this order.
 abbrev pub Passes : Grammar → Count → Type 0

@@ -5,8 +5,8 @@ use Rattle.tc_model.specs.CompactSyntaxTrees.{Syntax}
 use Rattle.tc_model.specs.CompactSyntax.{CompactSyntax}
 use Rattle.tc_model.specs.CompactSyntaxLawful.{IsLawfulSyntax}
 use Rattle.tc_model.specs.SimplifiesFaults.{Fault, Fails}
-use Rattle.tc_model.specs.Simplifies.{Simplifies}
-use Rattle.tc_model.specs.RncText.{RncText}
+use Rattle.tc_model.specs.Simplifies.{IsGrammarOf, Simplifies}
+use Rattle.tc_model.specs.RncText.{RncMeans, RncText}
 
 abbrev mutual
   -- choices, references and `notAllowed` alone, as simplification leaves the start (RELAX NG, 7.1.5)
@@ -28,13 +28,13 @@ HasOneSyntax = (bytes : List ℕ) (s t : Syntax) → CompactSyntax bytes s → C
 abbrev pub HasLawfulSyntax : Type 0
 HasLawfulSyntax = (bytes : List ℕ) (s : Syntax) → CompactSyntax bytes s → IsLawfulSyntax s × (s.end ≡ length bytes)
 
--- a syntax tree has at most one grammar
+-- a syntax tree stands for at most one grammar, also one that has a fault
 abbrev pub HasOneGrammar : Type 0
-HasOneGrammar = (s : Syntax) (g h : Grammar) → Simplifies s g → Simplifies s h → g ≡ h
+HasOneGrammar = (s : Syntax) (g h : Grammar) → IsGrammarOf s g → IsGrammarOf s h → g ≡ h
 
--- so a text has
+-- so a text means at most one, which is the one that it spells where it has no fault
 abbrev pub HasOneRncText : Type 0
-HasOneRncText = (bytes : List ℕ) (g h : Grammar) → RncText bytes g → RncText bytes h → g ≡ h
+HasOneRncText = (bytes : List ℕ) (g h : Grammar) → RncMeans bytes g → RncMeans bytes h → g ≡ h
 
 -- a syntax tree has at most one fault, and then no grammar
 abbrev pub HasOneFault : Type 0

@@ -10,8 +10,7 @@ definitions_of ds n = filter (λ d. bytes_eq d.name n) ds
 
 abbrev pub is_choice : Joins → Bool
 is_choice by_choice = true
-is_choice plain = false
-is_choice by_interleave = false
+is_choice _ = false
 
 abbrev pub bodies_of : List Definition → SyntaxPatterns
 bodies_of [] = no_more

@@ -1,5 +1,6 @@
--- How many predicates and path states a stylesheet may have: 6 predicates, 64 ancestor states and 4,096 states of moves and looks.
+-- How many predicates, ancestor states, and states of moves and looks a stylesheet may have.
 use Rattle.std.specs.Prelude.{ℕ, ◌<◌, List, [], ◌∷◌, ◌++◌, length, map, sum, filter, Bool, true, not, Option, None, Some}
+use Rattle.tc_base.specs.declared.limits.TheConstants.{MOST_PREDICATES, MOST_ANCESTORS, MOST_SELECTS}
 use Rattle.tc_model.specs.Sheets.{Path, Sheet}
 use Rattle.tc_model.specs.Symbols.{Mention}
 use Rattle.tc_model.specs.PathStates.{State, is_empty_state, first_state, next_state, path_of_rules}
@@ -28,14 +29,14 @@ module _ (symbols : List Mention) (s : Sheet) where
   reached counts p n = rounds counts (next_state symbols (predicates_of s) p) (letters_of_elements symbols (predicates_of s)) n (filter counts (first_state p ∷ []))
 
   abbrev pub PassPredicates : Type 0
-  PassPredicates = 6 < length (predicates_of s)
+  PassPredicates = MOST_PREDICATES < length (predicates_of s)
 
   -- the ancestor states are those of the match patterns of all rules together
   abbrev pub PassAncestors : Type 0
-  PassAncestors = (n : ℕ) × (64 < length (reached all_count (path_of_rules s.rules) n))
+  PassAncestors = (n : ℕ) × (MOST_ANCESTORS < length (reached all_count (path_of_rules s.rules) n))
 
   abbrev pub PassSelects : Type 0
-  PassSelects = (n : ℕ) × (4096 < sum (map (λ b. length (reached some_item b.path n)) (blocks_of s)))
+  PassSelects = (n : ℕ) × (MOST_SELECTS < sum (map (λ b. length (reached some_item b.path n)) (blocks_of s)))
 
   abbrev pub PassNone : Type 0
   PassNone = ¬ PassPredicates × ¬ PassAncestors × ¬ PassSelects

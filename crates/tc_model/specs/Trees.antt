@@ -67,9 +67,8 @@ AreLawful (text s rest) = IsText s × AreLawful rest
 AreLawful (element n kids rest) = IsName n × AreLawful kids × AreLawful rest
 
 abbrev pub IsOneElement : Trees → Type 0
-IsOneElement none = ⊥
-IsOneElement (text s rest) = ⊥
 IsOneElement (element n kids rest) = rest ≡ none
+IsOneElement _ = ⊥
 
 -- a document: one element, in normal form
 abbrev pub IsDocument : Trees → Type 0

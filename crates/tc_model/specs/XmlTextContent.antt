@@ -21,10 +21,8 @@ pub data Piece : Type 0 where
 -- characters before trees: they join a text that stands there, which takes over their place; no characters make no text
 abbrev pub characters_before : List ℕ → ℕ → RawTrees → RawTrees
 characters_before s p (text t q rest) = text (s ++ t) p rest
-characters_before [] p none = none
-characters_before [] p (element n attributes scope q kids rest) = element n attributes scope q kids rest
-characters_before (c ∷ s) p none = text (c ∷ s) p none
-characters_before (c ∷ s) p (element n attributes scope q kids rest) = text (c ∷ s) p (element n attributes scope q kids rest)
+characters_before [] p rest = rest
+characters_before s p rest = text s p rest
 
 abbrev pub piece_before : Piece → RawTrees → RawTrees
 piece_before nothing rest = rest

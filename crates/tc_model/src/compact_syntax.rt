@@ -9,9 +9,9 @@ pub fn law_of_syntax_trees()
     ensures lawful_syntax { HasLawfulSyntax }
 {}
 
-/// Laws of grammars. A syntax tree has at most one, or at most one fault and then none, and so has a text;
-/// the grammar of a text is well-formed, and its start is made of choices, references and `notAllowed` alone
-/// (RELAX NG Specification, 7.1.5).
+/// Laws of grammars. A syntax tree stands for at most one, also where it has a fault, and so a text means at
+/// most one. It has at most one fault, and then it simplifies to none. The grammar of a text is well-formed, and
+/// its start is made of choices, references and `notAllowed` alone (RELAX NG Specification, 7.1.5).
 pub fn law_of_grammars()
     ensures one_grammar { HasOneGrammar }
     ensures one_rnc_text { HasOneRncText }

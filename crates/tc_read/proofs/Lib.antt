@@ -3,3 +3,4 @@ pub mod OtherEntities
 mod TextFaults
 mod RefusedTexts
 pub mod SchemaReasons
+pub mod SheetMeanings

@@ -638,15 +638,17 @@ module _ (s : Syntax) where
       let (ps, l) = elements_become f.defined f.acyclic (kept s.definitions) (kept s.definitions) reached in (
         record { start = p; elements = ps },
         record {
-          numbered = kept s.definitions;
-          start = start;
           faultless = f;
-          ascending = (kept_ascending 0 s.definitions order).0;
-          reached = reached;
-          all = all_kept;
-          is_start = is;
-          start_becomes = b;
-          elements_become = l;
+          is_grammar = record {
+            numbered = kept s.definitions;
+            start = start;
+            ascending = (kept_ascending 0 s.definitions order).0;
+            reached = reached;
+            all = all_kept;
+            is_start = is;
+            start_becomes = b;
+            elements_become = l;
+          };
         },
       )
 

@@ -133,15 +133,17 @@ module _ (s : Syntax) (t : Table) (start : ℕ) (marks : List Bool) (states : Li
         let (c, done, small) = state_of s t start marks states order r start p got in
         let all = elements_reached s t start marks states order r es (λ e h. h) in
         record {
-          numbered = es;
-          start = see.pattern p;
           faultless = faultless;
-          ascending = elements_ascend s t marks lawful.in_order;
-          reached = all;
-          all = all_elements s t start marks states order r;
-          is_start = is;
-          start_becomes = subst (λ z. Becomes s es (see.pattern p) z) (sym begins) (are start c p ((r.reach.exact start).1 (inl refl)) done small got);
-          elements_become = subst (λ z. ElementsBecome s es es z) (sym rest) (elements_so es all);
+          is_grammar = record {
+            numbered = es;
+            start = see.pattern p;
+            ascending = elements_ascend s t marks lawful.in_order;
+            reached = all;
+            all = all_elements s t start marks states order r;
+            is_start = is;
+            start_becomes = subst (λ z. Becomes s es (see.pattern p) z) (sym begins) (are start c p ((r.reach.exact start).1 (inl refl)) done small got);
+            elements_become = subst (λ z. ElementsBecome s es es z) (sym rest) (elements_so es all);
+          };
         }
 
   -- how large the grammar is
@@ -178,15 +180,17 @@ module _ (s : Syntax) (t : Table) (start : ℕ) (marks : List Bool) (states : Li
         let grammar : Grammar = record { start = q; elements = ps } in (
           grammar,
           record {
-            numbered = es;
-            start = see.pattern p;
             faultless = faultless;
-            ascending = elements_ascend s t marks lawful.in_order;
-            reached = all;
-            all = all_elements s t start marks states order r;
-            is_start = begins;
-            start_becomes = b;
-            elements_become = rest;
+            is_grammar = record {
+              numbered = es;
+              start = see.pattern p;
+              ascending = elements_ascend s t marks lawful.in_order;
+              reached = all;
+              all = all_elements s t start marks states order r;
+              is_start = begins;
+              start_becomes = b;
+              elements_become = rest;
+            };
           },
           ◌∙◌ {c = capped (grammar_nodes grammar)} (ap (λ y. y.nodes) is) i,
           ◌∙◌ {c = capped (grammar_depth grammar)} (ap (λ y. y.depth) is) j,
