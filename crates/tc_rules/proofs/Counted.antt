@@ -229,33 +229,42 @@ module _ (symbols : List Mention) (r : Rules) (h : IsRulesOf symbols r) where
           subst Answer (sym (none_here absent)) (first_left b.path lawful (not_true (is_empty_state (first_state b.path)) f))
 
   -- of a move of the stylesheet
-  pub move_begins : (m : Move) (i : ℕ) → Contains (moves_of T.sheet) m → i ≡ number_of same_move m (moves_of T.sheet)
+  pub move_begins_at : (m : Move) (i : ℕ) → Contains (moves_of T.sheet) m → slice_get (moves_of T.sheet) i ≡ Some m
       → MatchOption (first_from T.selects r.starts.items i) (m.path ≡ no_alternative) (λ k. IsStateOf T k (record { path = m.path; mode = Some m.mode }) (first_state m.path))
-  move_begins m i c e =
+  move_begins_at m i c at =
       let there : Has (moves_of T.sheet) m = has_from_contains (moves_of T.sheet) m c in
       let lawful : IsPath m.path = every_member MovesPath (moves_of T.sheet) m (moves_lawful T.sheet h.tells.well_formed) there in
-      let at : slice_get (moves_of T.sheet) i ≡ Some m = ap (slice_get (moves_of T.sheet)) e ∙ found_by_number same_move move_same move_self (moves_of T.sheet) m there in
       first_of_block i (move_block m) lawful (front_at (map move_block (moves_of T.sheet)) (map look_block (looks_of T.sheet)) i (move_block m) (mapped_at move_block (moves_of T.sheet) i m at))
 
   -- of a look
-  pub look_begins : (p : Path) (n i : ℕ) → Contains (looks_of T.sheet) p → n ≡ length r.moves.items → i ≡ number_of same_path p (looks_of T.sheet)
+  pub look_begins_at : (p : Path) (n i : ℕ) → Contains (looks_of T.sheet) p → n ≡ length r.moves.items → slice_get (looks_of T.sheet) i ≡ Some p
       → MatchOption (first_from T.selects r.starts.items (n + i)) (p ≡ no_alternative) (λ k. IsStateOf T k (record { path = p; mode = None }) (first_state p))
-  look_begins p n i c f e =
+  look_begins_at p n i c f at =
       let there : Has (looks_of T.sheet) p = has_from_contains (looks_of T.sheet) p c in
       let lawful : IsPath p = every_member IsPath (looks_of T.sheet) p (looks_lawful T.sheet h.tells.well_formed) there in
-      let at : slice_get (looks_of T.sheet) i ≡ Some p = ap (slice_get (looks_of T.sheet)) e ∙ found_by_number same_path path_same path_self (looks_of T.sheet) p there in
       let size : n ≡ length (map move_block (moves_of T.sheet)) = omega (arith, f, moves_length, length-map (moves_of T.sheet) move_block) in
       first_of_block (n + i) (look_block p) lawful (back_at (map move_block (moves_of T.sheet)) (map look_block (looks_of T.sheet)) n i size ∙ mapped_at look_block (looks_of T.sheet) i p at)
 
-  pub move_first_told : (m : Move) (i : ℕ) (o : Option ℕ) → Contains (moves_of T.sheet) m → i ≡ number_of same_move m (seen.moves r.sheet.modes r.moves.items) → o ≡ first_from T.selects r.starts.items i
+  -- by its number
+  pub move_begins : (m : Move) (i : ℕ) → Contains (moves_of T.sheet) m → i ≡ number_of same_move m (moves_of T.sheet)
+      → MatchOption (first_from T.selects r.starts.items i) (m.path ≡ no_alternative) (λ k. IsStateOf T k (record { path = m.path; mode = Some m.mode }) (first_state m.path))
+  move_begins m i c e =
+      move_begins_at m i c (ap (slice_get (moves_of T.sheet)) e ∙ found_by_number same_move move_same move_self (moves_of T.sheet) m (has_from_contains (moves_of T.sheet) m c))
+
+  pub look_begins : (p : Path) (n i : ℕ) → Contains (looks_of T.sheet) p → n ≡ length r.moves.items → i ≡ number_of same_path p (looks_of T.sheet)
+      → MatchOption (first_from T.selects r.starts.items (n + i)) (p ≡ no_alternative) (λ k. IsStateOf T k (record { path = p; mode = None }) (first_state p))
+  look_begins p n i c f e =
+      look_begins_at p n i c f (ap (slice_get (looks_of T.sheet)) e ∙ found_by_number same_path path_same path_self (looks_of T.sheet) p (has_from_contains (looks_of T.sheet) p c))
+
+  pub move_first_told : (m : Move) (i : ℕ) (o : Option ℕ) → Contains (moves_of T.sheet) m → (Contains (seen.moves r.sheet.modes r.moves.items) m → slice_get (seen.moves r.sheet.modes r.moves.items) i ≡ Some m) → o ≡ first_from T.selects r.starts.items i
       → MatchOption o (m.path ≡ no_alternative) (λ k. IsStateOf T k (record { path = m.path; mode = Some m.mode }) (first_state m.path))
   move_first_told m i o c e f =
-      subst (λ w. MatchOption w (m.path ≡ no_alternative) (λ k. IsStateOf T k (record { path = m.path; mode = Some m.mode }) (first_state m.path))) (sym f) (move_begins m i c (e ∙ ap (number_of same_move m) h.moves))
+      subst (λ w. MatchOption w (m.path ≡ no_alternative) (λ k. IsStateOf T k (record { path = m.path; mode = Some m.mode }) (first_state m.path))) (sym f) (move_begins_at m i c (subst (λ ms. Contains ms m → slice_get ms i ≡ Some m) h.moves e c))
 
-  pub look_first_told : (p : Path) (n i : ℕ) (o : Option ℕ) → Contains (looks_of T.sheet) p → n ≡ length r.moves.items → i ≡ number_of same_path p (seen.looks r.looks.items) → o ≡ first_from T.selects r.starts.items (n + i)
+  pub look_first_told : (p : Path) (n i : ℕ) (o : Option ℕ) → Contains (looks_of T.sheet) p → n ≡ length r.moves.items → (Contains (seen.looks r.looks.items) p → slice_get (seen.looks r.looks.items) i ≡ Some p) → o ≡ first_from T.selects r.starts.items (n + i)
       → MatchOption o (p ≡ no_alternative) (λ k. IsStateOf T k (record { path = p; mode = None }) (first_state p))
   look_first_told p n i o c l e f =
-      subst (λ w. MatchOption w (p ≡ no_alternative) (λ k. IsStateOf T k (record { path = p; mode = None }) (first_state p))) (sym f) (look_begins p n i c l (e ∙ ap (number_of same_path p) h.looks))
+      subst (λ w. MatchOption w (p ≡ no_alternative) (λ k. IsStateOf T k (record { path = p; mode = None }) (first_state p))) (sym f) (look_begins_at p n i c l (subst (λ ps. Contains ps p → slice_get ps i ≡ Some p) h.looks e c))
 
   -- the mode of a move's state
   block_of_move : (ms : List Move) (bs : List PathUse) (i : ℕ) (b : PathUse) → i < length ms → slice_get (map move_block ms ++ bs) i ≡ Some b → (m : Move) × (slice_get ms i ≡ Some m) × (b.mode ≡ Some m.mode)

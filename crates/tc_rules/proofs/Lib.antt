@@ -20,6 +20,7 @@ pub mod Carried
 pub mod Fits
 pub mod Queries
 pub mod Gathered
+pub mod Hinted
 pub mod Numbering
 pub mod Answered
 pub mod Collected

@@ -1,6 +1,7 @@
 -- Different moves, found among many by numbers that equal ones share.
 use Rattle.std.specs.Prelude.{◌≡◌, ◌<◌, ◌≤◌, ◌%◌, ℕ, List, [], ◌∷◌, length, map, filter, sum, get_or, slice_get, Option, None, Some, Bool, true, false, nat_eq}
 use Rattle.std.specs.List.{list_any}
+use Rattle.tc_base.specs.declared.limits.TheConstants.{MOST_SELECTS}
 use Rattle.tc_model.specs.Numberings as n
 use Rattle.tc_model.specs.PathStates.{first_state}
 use Rattle.tc_model.specs.Sheets.{Path, Test}
@@ -35,7 +36,7 @@ begun ps = sum (map (λ p. length (filter some_item (first_state p ∷ []))) ps)
 abbrev pub IsPathsCause : List Path → RulesFault → Type 0
 IsPathsCause ps TooManyPredicates = ⊥
 IsPathsCause ps TooManyAncestorStates = ⊥
-IsPathsCause ps TooManySelectStates = 4096 < begun ps
+IsPathsCause ps TooManySelectStates = MOST_SELECTS < begun ps
 IsPathsCause ps NoMemory = Unit {0}
 
 -- each move stands at the place of its number
@@ -44,4 +45,4 @@ pub record IsFiled (tests : List Test) (modes : ℕ) (t : MoveTable) : Type 0 wh
   pub few : length t.places.items ≤ 4093
   pub filed : (i : ℕ) (m : n.Move) → slice_get (moves modes t.moves.items) i ≡ Some m → list_any (nat_eq i) (get_or (numbers t.places.items) (mixed_move tests m % length t.places.items) []) ≡ true
   pub counted : t.begun ≡ begun (paths (moves modes t.moves.items))
-  pub within : t.begun ≤ 4096
+  pub within : t.begun ≤ MOST_SELECTS

@@ -1,5 +1,6 @@
 -- The select states of several paths, one path after another: where each stands, and how many stand before those of each path.
 use Rattle.std.specs.Prelude.{ℕ, suc, ◌+◌, ◌<◌, List, [], ◌∷◌, ◌++◌, length, map, sum, filter, get_or, Option, None, Some, ◌==◌, if◌then◌else◌}
+use Rattle.tc_base.specs.declared.limits.TheConstants.{MOST_ANCESTORS, MOST_SELECTS}
 use Rattle.tc_model.specs.Sheets.{Path, Test, Sheet}
 use Rattle.tc_model.specs.Symbols.{Mention}
 use Rattle.tc_model.specs.Numbered.{numbers_below}
@@ -52,7 +53,7 @@ module _ (symbols : List Mention) (tests : List Test) where
 -- why there is no graph of the ancestor states
 abbrev pub IsAncestorCause : Source → Path → RulesFault → Type 0
 IsAncestorCause x p TooManyPredicates = ⊥
-IsAncestorCause x p TooManyAncestorStates = (symbols : List Mention) → IsSourceOf symbols x → (n : ℕ) × (64 < length (all_states_by symbols (predicates x.predicates.items) p n))
+IsAncestorCause x p TooManyAncestorStates = (symbols : List Mention) → IsSourceOf symbols x → (n : ℕ) × (MOST_ANCESTORS < length (all_states_by symbols (predicates x.predicates.items) p n))
 IsAncestorCause x p TooManySelectStates = ⊥
 IsAncestorCause x p NoMemory = Unit {0}
 
@@ -67,5 +68,5 @@ IsNextCause x p left NoMemory = Unit {0}
 abbrev pub IsSelectCause : Source → List Path → RulesFault → Type 0
 IsSelectCause x ps TooManyPredicates = ⊥
 IsSelectCause x ps TooManyAncestorStates = ⊥
-IsSelectCause x ps TooManySelectStates = (symbols : List Mention) → IsSourceOf symbols x → (n : ℕ) × (4096 < count_by symbols (predicates x.predicates.items) ps n)
+IsSelectCause x ps TooManySelectStates = (symbols : List Mention) → IsSourceOf symbols x → (n : ℕ) × (MOST_SELECTS < count_by symbols (predicates x.predicates.items) ps n)
 IsSelectCause x ps NoMemory = Unit {0}

@@ -7,6 +7,7 @@
 
 mod gather;
 mod graph;
+mod hints;
 mod known_rules;
 pub mod laws;
 mod mixed;

@@ -9,16 +9,16 @@ use crate::walk::Move;
 use tc_model::{NodeTest, Step, Test};
 
 /// Where mixing begins.
-const START: u64 = 0xcbf2_9ce4_8422_2325;
+pub(crate) const START: u64 = 0xcbf2_9ce4_8422_2325;
 
 /// Mixes one more number in (FNV-1a).
-fn mixed(hash: u64, number: u64) -> u64
+pub(crate) fn mixed(hash: u64, number: u64) -> u64
     ensures { result ≡ m.mixed hash number }
 {
     (hash ^ number).wrapping_mul(0x0000_0100_0000_01b3)
 }
 
-fn mixed_bytes(start: u64, bytes: &[u8]) -> u64
+pub(crate) fn mixed_bytes(start: u64, bytes: &[u8]) -> u64
     ensures { result ≡ m.mixed_bytes start bytes.now }
 {
     let mut hash = start;

@@ -22,13 +22,11 @@ use crate::rules::{RulesFault, select_paths};
 use crate::walk::{Job, Move};
 use std::alloc::Global;
 use tc_base::NoMemory;
+use tc_base::limits::MOST_SELECTS;
 use tc_model::{Path, Test};
 
 /// The most places of a table, but for one; with that their number is a prime.
 const MOST_PLACES: usize = 4092;
-
-/// The most different moves, or looks, that have a first state: each of these is a select state.
-const MOST_BEGUN: usize = 4096;
 
 /// Different moves, in their order.
 #[derive(Drop)]
@@ -118,7 +116,7 @@ impl<'b> MoveTable<'b> {
         Ok(())
     }
 
-    /// One more move, unless one of those kept is the same.
+    /// One more move, unless one of those kept is the same. Each that has a first state is a select state.
     fn keep(
         &mut self,
         numbered: &[&Test<'_>],
@@ -140,7 +138,7 @@ impl<'b> MoveTable<'b> {
             return Ok(());
         }
         let begun = self.begun + first_states(sought.path);
-        if begun > MOST_BEGUN {
+        if begun > MOST_SELECTS as usize {
             return Err(RulesFault::TooManySelectStates);
         }
         self.put(place, sought)?;

@@ -13,10 +13,8 @@ use crate::same::{same_path, same_test};
 use crate::walk::{Job, Move};
 use std::alloc::Global;
 use tc_base::NoMemory;
+use tc_base::limits::MOST_PREDICATES;
 use tc_model::{Path, Test};
-
-/// The most predicates.
-const MOST_PREDICATES: usize = 6;
 
 /// The different predicates, in their order, of which there are at most 6: the seventh ends the search.
 pub(crate) fn predicates_once<'b>(
@@ -49,7 +47,7 @@ fn keep_predicate<'b>(kept: &mut Vec<&'b Test<'b>>, test: &'b Test<'b>) -> Resul
     if number_of_test(kept, test) < count {
         return Ok(());
     }
-    if count == MOST_PREDICATES {
+    if count == MOST_PREDICATES as usize {
         return Err(RulesFault::TooManyPredicates);
     }
     put_predicate(kept, test)?;

@@ -34,18 +34,14 @@ use crate::gather::{
     paths_of_rules,
 };
 use crate::graph::{Counts, Graph, GraphFault, Source, as_u32};
-use crate::once::{number_of_move, number_of_path};
+use crate::hints::Hints;
 use crate::walk::{Job, Move, Usage};
 use bumpalo::Bump;
 use std::alloc::Global;
 use tc_alpha::{Alphabet, Sym};
 use tc_base::NoMemory;
+use tc_base::limits::{MOST_ANCESTORS, MOST_SELECTS};
 use tc_model::{Instr, Path, Pattern, Rule, Sheet, Test};
-
-/// The most ancestor states and select states.
-const MOST_ANCESTORS: usize = 64;
-
-const MOST_SELECTS: usize = 4096;
 
 /// A set of predicates, to which the predicate of number i adds 2 to the power i.
 #[derive(Clone, Copy)]
@@ -112,6 +108,8 @@ pub struct Rules<'b> {
     selects: Vec<Select>,
     /// The number of each graph's first state among the select states, and of those after the last.
     starts: Vec<u32>,
+    /// Where moves and looks are looked for first.
+    hints: Hints,
 }
 
 impl<'b> Rules<'b> {
@@ -173,6 +171,7 @@ impl<'b> Rules<'b> {
             graphs: selected.graphs,
             selects: selected.selects,
             starts: selected.starts,
+            hints: selected.hints,
         })
     }
 
@@ -331,7 +330,10 @@ impl<'b> Rules<'b> {
             { path = see.path path.now; mode = Some (mode_of (told self.now).sheet.modes job) })
             (first_state (see.path path.now))) }
     {
-        let number = number_of_move(self.sheet.modes, &self.moves, &Move { path, job });
+        let sought = Move { path, job };
+        let number = self
+            .hints
+            .move_number(self.sheet.modes, &self.moves, &sought);
         self.first_of(number)
     }
 
@@ -343,7 +345,7 @@ impl<'b> Rules<'b> {
             (λ k. IsStateOf (told self.now) k (record { path = see.path path.now; mode = None })
             (first_state (see.path path.now))) }
     {
-        let number = self.moves.len() + number_of_path(&self.looks, path);
+        let number = self.moves.len() + self.hints.look_number(&self.looks, path);
         self.first_of(number)
     }
 
@@ -572,6 +574,7 @@ struct Selected {
     graphs: Vec<Graph>,
     selects: Vec<Select>,
     starts: Vec<u32>,
+    hints: Hints,
 }
 
 fn selected_of(
@@ -597,10 +600,12 @@ fn selected_of(
     let graphs = select_graphs(source, moves, looks)?;
     let selects = selects_of(source.alloc, &graphs)?;
     let starts = starts_of(source.alloc, &graphs)?;
+    let hints = Hints::of(source.alloc, moves, looks)?;
     Ok(Selected {
         graphs,
         selects,
         starts,
+        hints,
     })
 }
 
@@ -624,7 +629,7 @@ fn ancestors_of(source: &Source<'_, '_>, sheet: &Sheet<'_>) -> Result<Graph, Rul
         (λ e. IsAncestorCause source.now (path_of_rules (see.sheet sheet.now).rules) e) }
 {
     let path = paths_of_rules(source.alloc, sheet)?;
-    match source.graph(&path, Counts::All, MOST_ANCESTORS) {
+    match source.graph(&path, Counts::All, MOST_ANCESTORS as usize) {
         Ok(graph) => Ok(graph),
         Err(GraphFault::TooManyStates) => Err(RulesFault::TooManyAncestorStates),
         Err(GraphFault::NoMemory) => Err(RulesFault::NoMemory),
@@ -681,7 +686,7 @@ fn graphs_of(source: &Source<'_, '_>, paths: &[&Path<'_>]) -> Result<Vec<Graph>,
     ensures cause { IfErr result (λ e. IsSelectCause source.now (see_paths paths.now) e) }
 {
     let mut graphs = Vec::new(source.alloc);
-    let mut left = MOST_SELECTS;
+    let mut left = MOST_SELECTS as usize;
     for path in paths {
         let graph = next_graph(source, path, left)?;
         left -= graph.len() as usize;

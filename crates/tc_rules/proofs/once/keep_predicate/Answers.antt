@@ -13,8 +13,8 @@ returns-then-number_of_test-count-clause-kept c =
     stays_there same_test (λ (t : Bor Test). see.test t.now) c.args.kept.now.items (see.test c.args.test.now) c.number_of_test.result
     (c.number_of_test.ensures.number ∙ ap (λ (ts : List (Bor Test)). number_of same_test (see.test c.args.test.now) (predicates ts)) c.deref.ensures.value) (omega arith)
 
-pub returns-then-count-eq-MOST_PREDICATES-clause-cause : goal.returns-then-count-eq-MOST_PREDICATES-clause-cause
-returns-then-count-eq-MOST_PREDICATES-clause-cause c =
+pub returns-then-count-clause-cause : goal.returns-then-count-clause-cause
+returns-then-count-clause-cause c =
     one_more same_test (λ (t : Bor Test). see.test t.now) c.args.kept.now.items c.args.test c.number_of_test.result 6
     (c.number_of_test.ensures.number ∙ ap (λ (ts : List (Bor Test)). number_of same_test (see.test c.args.test.now) (predicates ts)) c.deref.ensures.value) (omega arith) (omega arith)
 

@@ -18,8 +18,8 @@ returns-then-has_among-clause-moves c =
 pub put-requires : goal.put-requires
 put-requires c = record { place = c.place_of-place.ensures.within; few = c.requires.few }
 
-pub returns-then-begun-gt-MOST_BEGUN-clause-cause : goal.returns-then-begun-gt-MOST_BEGUN-clause-cause
-returns-then-begun-gt-MOST_BEGUN-clause-cause c =
+pub returns-then-begun-clause-cause : goal.returns-then-begun-clause-cause
+returns-then-begun-clause-cause c =
     let m = move c.args.modes c.args.sought.now in
     let found = found_by_number (predicates c.args.numbered.now) c.args.modes c.args.self.now m c.mixed_move.result c.place_of-place.result c.numbers_at.result.now c.has_among.result c.requires c.mixed_move.ensures.number c.place_of-place.ensures.place c.numbers_at.ensures c.has_among.ensures in
     many_after (predicates c.args.numbered.now) c.args.modes c.args.self.now c.args.sought.now c.first_states.result c.requires c.first_states.ensures.count c.has_among.result found c.if-has_among.false (omega arith)
