@@ -1,6 +1,7 @@
 pub mod TagLaws
 pub mod FailedLaws
 pub mod ChainLaws
+pub mod PairLaws
 pub mod ListedLaws
 pub mod ScopeLaws
 pub mod BindingLaws

@@ -1,15 +1,18 @@
 -- Names of attributes that differ from one another, and which of them are among others.
-use Rattle.std.proofs.Common.{◌≡◌, ℕ, zero, suc, ◌+◌, ◌<◌, Bool, true, false, cond, ◌||◌, ◌&&◌, List, [], ◌∷◌, ◌++◌, refl, ap, ◌∙◌, sym, subst, length, take, drop, reverse, get_or, Option, None, Some, bytes_eq, take-append-drop, append-nil}
+use Rattle.std.proofs.Common.{◌≡◌, ℕ, zero, suc, ◌+◌, ◌<◌, Bool, true, false, cond, ◌||◌, ◌&&◌, List, [], ◌∷◌, ◌++◌, refl, ap, ◌∙◌, sym, subst, length, take, drop, reverse, get_or, Option, None, Some, bytes_eq, take-append-drop, append-nil, map, MatchBool}
 use Rattle.std.specs.Prelude.{unwrap_or}
 use Rattle.std.specs.List.{IsDistinct, AllByRecursion, list_any}
 use Rattle.std.specs.Cmp.Lexicographic.{bytes_decides}
 use Rattle.std.proofs.lemmas.Bool.{true≢false}
-use Rattle.std.proofs.lemmas.List.{reverse-append, map_more, take_more, drop_more, get_or-map, length-map}
+use Rattle.std.proofs.lemmas.List.{reverse-append, map-append, map_more, take_more, drop_more, get_or-map, length-map}
 use Rattle.tc_tags.specs.Chained.{chain_of, first_such}
-use Rattle.tc_tags.specs.Listed.{Parts, same_parts, uri_bytes, parts, chain_of_parts, chains_of_parts, has_parts, parts_before, all_parts, is_among}
+use Rattle.tc_tags.specs.Listed.{Parts, same_parts, uri_bytes, parts, chain_of_parts, chains_of_parts, has_parts, parts_before, all_parts, shown, is_among, is_declared, HasNoPrefix}
+use Rattle.tc_tags.specs.Pairs.{Pair, same_pair}
 use Rattle.tc_tags.specs.declared.attributes.Attribute.{Attribute}
 use Rattle.tc_tags.specs.Scoped.{bound_by}
 use Rattle.tc_tags.specs.declared.attributes.Sort.{Sort}
+use Rattle.tc_tags.specs.declared.attributes.Sort.TheVariants.{Written, Expanded}
+use Rattle.tc_tags.specs.Spans.{at_span}
 use Rattle.tc_tags.specs.declared.scopes.Declared.{Declared}
 use Rattle.tc_tags.proofs.ChainLaws.{Follows}
 
@@ -62,6 +65,39 @@ pub apart_none : IsDistinct same_parts []
 unfolding IsDistinct
 apart_none = tt
 
+-- names in pairs
+
+both_turned : (x y : Bool) → x && y ≡ y && x
+both_turned true true = refl
+both_turned true false = refl
+both_turned false true = refl
+both_turned false false = refl
+
+shown_alike : (p q : Pair) → same_parts (shown p) (shown q) ≡ same_pair p q
+shown_alike p q = both_turned (bytes_eq p.1.now q.1.now) (bytes_eq p.0.now q.0.now)
+
+differ_shown : (p : Pair) (ps : List Pair) → AllByRecursion (λ q. same_pair p q ≡ false) ps → AllByRecursion (λ n. same_parts (shown p) n ≡ false) (map shown ps)
+differ_shown p [] h = tt
+differ_shown p (q ∷ ps) h = (shown_alike p q ∙ h.0, differ_shown p ps h.1)
+
+shown_differ : (p : Pair) (ps : List Pair) → AllByRecursion (λ n. same_parts (shown p) n ≡ false) (map shown ps) → AllByRecursion (λ q. same_pair p q ≡ false) ps
+shown_differ p [] h = tt
+shown_differ p (q ∷ ps) h = (sym (shown_alike p q) ∙ h.0, shown_differ p ps h.1)
+
+distinct_shown : (ps : List Pair) → IsDistinct same_pair ps → IsDistinct same_parts (map shown ps)
+unfolding IsDistinct
+distinct_shown [] h = tt
+distinct_shown (p ∷ ps) h = (differ_shown p ps h.0, distinct_shown ps h.1)
+
+shown_distinct : (ps : List Pair) → IsDistinct same_parts (map shown ps) → IsDistinct same_pair ps
+unfolding IsDistinct
+shown_distinct [] h = tt
+shown_distinct (p ∷ ps) h = (shown_differ p ps h.0, shown_distinct ps h.1)
+
+pub once_shown : (b : Bool) (ps : List Pair) (names : List Parts) → map shown ps ≡ names → MatchBool b (IsDistinct same_pair ps) (IsDistinct same_pair ps → ⊥) → MatchBool b (IsDistinct same_parts names) (IsDistinct same_parts names → ⊥)
+once_shown true ps names e h = subst (IsDistinct same_parts) e (distinct_shown ps h)
+once_shown false ps names e h = λ k. h (shown_distinct ps (subst (IsDistinct same_parts) (sym e) k))
+
 -- what a list of attributes gives past its end
 abbrev pub blank : Attribute
 blank = record { prefix = record { start = 0; length = 0 }; local = record { start = 0; length = 0 }; value = 0; quote = 0 }
@@ -87,6 +123,24 @@ module _ (s : Sort) (tag names : List ℕ) (declared : List Declared) where
       by : (o : Option Parts) → parts_before o (all_parts s tag names declared xs ++ all_parts s tag names declared ys) ≡ parts_before o (all_parts s tag names declared xs) ++ all_parts s tag names declared ys
       by None = refl
       by (Some p) = refl
+
+  -- one attribute more, which has a name or not
+  pub names_more : (list : List Attribute) (i : ℕ) (d : Attribute) (old new : List Pair) (one : Pair) → i < length list → map shown old ≡ all_parts s tag names declared (take i list)
+      → parts s tag names declared (get_or list i d) ≡ Some (shown one) → new ≡ old ++ one ∷ [] → map shown new ≡ all_parts s tag names declared (take (i + 1) list)
+  names_more list i d old new one l h e f =
+      ap (map shown) f
+      ∙ (map-append shown old (one ∷ [])
+      ∙ (ap (λ w. w ++ shown one ∷ []) h
+      ∙ (ap (λ o. all_parts s tag names declared (take i list) ++ parts_before o []) (sym e)
+      ∙ sym (ap (all_parts s tag names declared) (take_more list i d l) ∙ all_parts-append (take i list) (get_or list i d ∷ [])))))
+
+  pub names_same : (list : List Attribute) (i : ℕ) (d : Attribute) (old : List Pair) → i < length list → map shown old ≡ all_parts s tag names declared (take i list)
+      → parts s tag names declared (get_or list i d) ≡ None → map shown old ≡ all_parts s tag names declared (take (i + 1) list)
+  names_same list i d old l h e =
+      h
+      ∙ (sym (append-nil (all_parts s tag names declared (take i list)))
+      ∙ (ap (λ o. all_parts s tag names declared (take i list) ++ parts_before o []) (sym e)
+      ∙ sym (ap (all_parts s tag names declared) (take_more list i d l) ∙ all_parts-append (take i list) (get_or list i d ∷ []))))
 
   any_parts : (p : Parts) (xs : List Attribute) → list_any (λ a. has_parts p (parts s tag names declared a)) xs ≡ list_any (λ q. same_parts q p) (all_parts s tag names declared xs)
   any_parts p [] = refl
@@ -180,3 +234,38 @@ module _ (s : Sort) (tag names : List ℕ) (declared : List Declared) where
 pub none_alike : (sort : Sort) (tag names : List ℕ) (declared : List Declared) (list : List Attribute) → list ≡ [] → IsDistinct same_parts (all_parts sort tag names declared list)
 unfolding IsDistinct
 none_alike sort tag names declared list e = subst (λ z. IsDistinct same_parts (all_parts sort tag names declared z)) (sym e) tt
+
+-- where no attribute has a prefix, the expanded names are those that are written, but for the one that declarations haven't
+module _ (tag names : List ℕ) (declared : List Declared) where
+  no_prefix : (a : Attribute) → HasNoPrefix a → at_span a.prefix tag ≡ []
+  no_prefix a e = ap (λ n. take n (drop a.prefix.start tag)) e
+
+  written_plain : (a : Attribute) → HasNoPrefix a → parts Written tag names declared a ≡ Some ([], at_span a.local tag)
+  written_plain a e = ap (λ p. Some (p, at_span a.local tag)) (no_prefix a e)
+
+  expanded_plain : (a : Attribute) → HasNoPrefix a → parts Expanded tag names declared a ≡ cond (is_declared [] (at_span a.local tag)) None (Some ([], at_span a.local tag))
+  expanded_plain a e = ap (λ p. cond (is_declared p (at_span a.local tag)) None (Some (uri_bytes names declared p, at_span a.local tag))) (no_prefix a e)
+
+  fewer : (P : Parts → Type 0) (list : List Attribute) → AllByRecursion HasNoPrefix list → AllByRecursion P (all_parts Written tag names declared list) → AllByRecursion P (all_parts Expanded tag names declared list)
+  fewer P [] h k = tt
+  fewer P (a ∷ list) h k =
+      let w = subst (λ o. AllByRecursion P (parts_before o (all_parts Written tag names declared list))) (written_plain a h.0) k in
+      subst (λ o. AllByRecursion P (parts_before o (all_parts Expanded tag names declared list))) (sym (expanded_plain a h.0)) (by (is_declared [] (at_span a.local tag)) w.0 (fewer P list h.1 w.1))
+    where
+      by : (b : Bool) → P ([], at_span a.local tag) → AllByRecursion P (all_parts Expanded tag names declared list)
+          → AllByRecursion P (parts_before (cond b None (Some ([], at_span a.local tag))) (all_parts Expanded tag names declared list))
+      by true here later = later
+      by false here later = (here, later)
+
+  pub written_tells : (list : List Attribute) → AllByRecursion HasNoPrefix list → IsDistinct same_parts (all_parts Written tag names declared list) → IsDistinct same_parts (all_parts Expanded tag names declared list)
+  unfolding IsDistinct
+  written_tells [] h d = tt
+  written_tells (a ∷ list) h d =
+      let w = subst (λ o. IsDistinct same_parts (parts_before o (all_parts Written tag names declared list))) (written_plain a h.0) d in
+      subst (λ o. IsDistinct same_parts (parts_before o (all_parts Expanded tag names declared list))) (sym (expanded_plain a h.0))
+      (by (is_declared [] (at_span a.local tag)) (fewer (λ q. same_parts ([], at_span a.local tag) q ≡ false) list h.1 w.0) (written_tells list h.1 w.1))
+    where
+      by : (b : Bool) → AllByRecursion (λ q. same_parts ([], at_span a.local tag) q ≡ false) (all_parts Expanded tag names declared list) → IsDistinct same_parts (all_parts Expanded tag names declared list)
+          → IsDistinct same_parts (parts_before (cond b None (Some ([], at_span a.local tag))) (all_parts Expanded tag names declared list))
+      by true apart later = later
+      by false apart later = (apart, later)

@@ -1,3 +1,4 @@
+pub mod Pairs
 pub mod Begins
 pub mod XmlTextTags
 pub mod Spans

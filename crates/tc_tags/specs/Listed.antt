@@ -1,8 +1,9 @@
 -- The attributes of a tag, by what is kept of them.
-use Rattle.std.specs.Prelude.{ℕ, Bool, false, ◌&&◌, ◌||◌, List, [], ◌∷◌, Option, None, Some, unwrap_or, map, reverse, bytes_eq, codes, if◌then◌else◌}
+use Rattle.std.specs.Prelude.{◌≡◌, ℕ, Bool, false, ◌&&◌, ◌||◌, List, [], ◌∷◌, Option, None, Some, unwrap_or, map, reverse, bytes_eq, codes, if◌then◌else◌}
 use Rattle.std.specs.List.{list_any}
 use Rattle.tc_model.specs.XmlTextScopes.{is_empty}
 use Rattle.tc_tags.specs.Chained.{chain_of}
+use Rattle.tc_tags.specs.Pairs.{Pair}
 use Rattle.tc_tags.specs.Scoped.{bound_by}
 use Rattle.tc_tags.specs.Spans.{at_span}
 use Rattle.tc_tags.specs.declared.attributes.Attribute.{Attribute}
@@ -28,6 +29,10 @@ declared_prefix prefix local = if is_empty prefix && bytes_eq local (codes "xmln
 -- the namespace name of an attribute with this prefix, empty where it has none
 abbrev pub uri_bytes : List ℕ → List Declared → List ℕ → List ℕ
 uri_bytes names declared prefix = if is_empty prefix then [] else unwrap_or (bound_by (reverse declared) names prefix) []
+
+-- a name of two parts whose second part comes first
+abbrev pub shown : Pair → Parts
+shown p = (p.1.now, p.0.now)
 
 -- the name of an attribute: as it is written, or its expanded name, which a declaration hasn't
 abbrev pub parts : Sort → List ℕ → List ℕ → List Declared → Attribute → Option Parts
@@ -60,3 +65,6 @@ all_parts sort tag names declared (a ∷ others) = parts_before (parts sort tag 
 abbrev pub is_among : Option Parts → List Parts → Bool
 is_among None ps = false
 is_among (Some p) ps = list_any (λ q. same_parts q p) ps
+
+abbrev pub HasNoPrefix : Attribute → Type 0
+HasNoPrefix a = a.prefix.length ≡ 0

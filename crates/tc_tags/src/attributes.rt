@@ -1,15 +1,21 @@
 // The attributes of one tag, in a table that is taken once (XML 1.0, 3.1).
-ghost use Rattle.std.specs.Prelude.{◌≡◌, ◌+◌, ◌<◌, ◌≤◌, ◌++◌, ◌∷◌, [], length, take, reverse, slice_set, slice_index_or, vec_len, vec_capacity, IfOk, MatchBool, MatchOption, None, Some};
-ghost use Rattle.std.specs.List.{IsDistinct};
+ghost use Rattle.std.specs.Prelude.{◌≡◌, ◌+◌, ◌<◌, ◌≤◌, ◌++◌, ◌∷◌, [], length, map, take, reverse, slice_set, slice_index_or, vec_len, vec_capacity, IfOk, IfSome, IsTrue, MatchBool, MatchOption, None, Some};
+ghost use Rattle.std.specs.List.{IsDistinct, AllByRecursion};
+ghost use Rattle.tc_tags.specs.Listed.{HasNoPrefix};
 ghost use Rattle.tc_tags.specs.declared.attributes.TheConstants.{MOST_ATTRIBUTES};
 
 use crate::chains::{Chains, chain_of};
+use crate::distinct::all_differ;
 use crate::names::{Room, Span};
 use crate::scopes::Scopes;
 use std::alloc::{AllocError, Global};
 
 /// The most attributes of a tag of 65,536 bytes, each of which has five at least: `<a` and 13,106 attributes.
 pub(crate) const MOST_ATTRIBUTES: usize = 13_106;
+
+/// How many attributes are told apart by chains. Of more of them the names are put in order, as long as there is memory: who
+/// writes names can put them all into one chain.
+const CHAINED: usize = 64;
 
 /// An attribute, by where the parts of its name stand in the tag, its quote, and where its value begins behind that.
 #[derive(Clone, Copy)]
@@ -32,6 +38,7 @@ enum Sort {
 /// The attributes of a tag.
 #[derive(Drop)]
 pub struct Attributes {
+    alloc: Global,
     list: Vec<Attribute>,
     chains: Chains,
     ghost few: { vec_len list ≤ MOST_ATTRIBUTES },
@@ -86,7 +93,7 @@ impl Attribute {
 
 impl Sort {
     ghost use Rattle.tc_tags.specs.Scoped.{chains_in};
-    ghost use Rattle.tc_tags.specs.Listed.{same_parts, parts, chain_of_parts, chains_of_parts, has_parts, all_parts, is_among};
+    ghost use Rattle.tc_tags.specs.Listed.{same_parts, parts, chain_of_parts, chains_of_parts, has_parts, all_parts, shown, is_among};
 
     /// The name of an attribute, unless it has none.
     fn name<'n>(
@@ -113,6 +120,31 @@ impl Sort {
                 }
             }
         }
+    }
+
+    /// The names of all attributes that have one, the local part first, if there is memory for them. So namespace names, which
+    /// may be long, are compared only where the local parts are the same.
+    fn all_names<'n>(
+        self,
+        alloc: Global,
+        list: &[Attribute],
+        tag: &'n [u8],
+        names: &'n Room,
+        scopes: &Scopes,
+    ) -> Option<Vec<(&'n [u8], &'n [u8])>>
+        requires { scopes.now.chains.chains
+            ≡ chains_in names.now.bytes.items scopes.now.declared.items }
+        ensures { IfSome result (λ found. map shown found.items
+            ≡ all_parts self tag.now names.now.bytes.items scopes.now.declared.items list.now) }
+    {
+        let mut found = Vec::with_capacity(alloc, list.len()).ok()?;
+        for attribute in list {
+            let Some((first, second)) = self.name(attribute, tag, names, scopes) else {
+                continue;
+            };
+            found.push((second, first)).ok()?;
+        }
+        Some(found)
     }
 
     /// The chain of the name of an attribute.
@@ -212,6 +244,18 @@ impl Sort {
     }
 }
 
+/// True only where no attribute has a prefix: then expanded names differ where written ones do.
+fn have_no_prefix(list: &[Attribute]) -> bool
+    ensures { IsTrue result → AllByRecursion HasNoPrefix list.now }
+{
+    for attribute in list {
+        if attribute.prefix.length != 0 {
+            return false;
+        }
+    }
+    true
+}
+
 impl Attributes {
     ghost use Rattle.tc_tags.specs.Scoped.{chains_in};
     ghost use Rattle.tc_tags.specs.Listed.{same_parts, all_parts};
@@ -223,7 +267,11 @@ impl Attributes {
     {
         let list = Vec::with_capacity(alloc, MOST_ATTRIBUTES)?;
         let chains = Chains::new(alloc, MOST_ATTRIBUTES)?;
-        Ok(Attributes { list, chains })
+        Ok(Attributes {
+            alloc,
+            list,
+            chains,
+        })
     }
 
     /// All of them.
@@ -261,6 +309,11 @@ impl Attributes {
             (all_parts sort tag.now names.now.bytes.items scopes.now.declared.items
             self.old.list.items) → ⊥) }
     {
+        if self.list.len() > CHAINED {
+            if let Some(mut found) = sort.all_names(self.alloc, &self.list, tag, names, scopes) {
+                return all_differ(&mut found);
+            }
+        }
         let once = sort.are_apart(&self.list, &mut self.chains, tag, names, scopes);
         self.chains.keep(0);
         once
@@ -290,6 +343,6 @@ impl Attributes {
             return true;
         }
         self.are_once(Sort::Written, tag, names, scopes)
-            && self.are_once(Sort::Expanded, tag, names, scopes)
+            && (have_no_prefix(&self.list) || self.are_once(Sort::Expanded, tag, names, scopes))
     }
 }

@@ -4,6 +4,7 @@
 
 mod attributes;
 mod chains;
+mod distinct;
 mod names;
 mod rooms;
 mod scopes;
@@ -11,6 +12,7 @@ mod tags;
 mod values;
 
 pub use attributes::Attributes;
+pub use distinct::all_differ;
 pub use names::{Room, Span, WrittenName};
 pub use rooms::{Rooms, text_of};
 pub use scopes::Scopes;

@@ -1,23 +1,20 @@
 -- What the steps of reading tags show of the whole.
-use Rattle.std.proofs.Common.{◌≡◌, ℕ, ◌<◌, ◌≤◌, ◌-◌, Bool, true, false, not, List, [], ◌∷◌, ◌++◌, refl, ap, ◌∙◌, sym, subst, length, arith, codes, append_assoc, append-nil, length-append, length-drop, IsTrue, Result, IfErr, bytes_eq}
-use Rattle.std.specs.List.{prefix_len, list_all}
+use Rattle.std.proofs.Common.{◌≡◌, ℕ, ◌<◌, ◌≤◌, Bool, true, false, not, List, [], ◌∷◌, ◌++◌, refl, ap, ◌∙◌, sym, subst, length, arith, codes, append_assoc, IsTrue, Result, IfErr, bytes_eq}
+use Rattle.std.specs.List.{list_all}
 use Rattle.std.specs.Result.{IsErrAnd}
 use Rattle.std.specs.Cmp.Lexicographic.{bytes_decides}
 use Rattle.std.proofs.lemmas.Bool.{true≢false, and_parts, and_from}
 use Rattle.std.proofs.lemmas.List.{append_cancel_left}
 use Rattle.std.proofs.lemmas.Result.{err_from_is_err_and}
-use Rattle.tc_base.specs.Characters.{is_white}
 use Rattle.tc_base.specs.declared.reasons.Why.{Why}
-use Rattle.tc_base.specs.declared.reasons.Why.TheVariants.{EntityReference, XmlSpace}
 use Rattle.tc_model.specs.Names.{ExpandedName}
 use Rattle.tc_model.specs.RawTrees.{Attribute, Bound, RawTrees}
-use Rattle.tc_model.specs.XmlTextBytes.{BeginsWithWhite, after_white, EqualsAt, place_of, RunAt}
-use Rattle.tc_model.specs.XmlTextNames.{QualifiedName, NcNameAt, QNameAt, unprefixed, prefixed, same_written}
-use Rattle.tc_model.specs.XmlTextReferences.{QuotedAt, ReferenceAt, decimal, hexadecimal, entity, other, ValueAt, closed, plain, is_digit}
-use Rattle.tc_model.specs.XmlTextReferences as r
+use Rattle.tc_model.specs.XmlTextBytes.{after_white, EqualsAt, place_of}
+use Rattle.tc_model.specs.XmlTextNames.{QualifiedName, QNameAt, same_written}
+use Rattle.tc_model.specs.XmlTextReferences.{QuotedAt}
 use Rattle.tc_model.specs.XmlTextScopes.{WrittenAttribute, is_xml_space, TagMeans}
-use Rattle.tc_model.specs.XmlTextContent.{Piece, EndsTag, AttributesAt, no_more, attribute, TagAt, ContentAt, at_end_tag, item, ItemAt, character_data, reference, cdata, comment, instruction, child, ElementAt, empty_tag, with_content}
-use Rattle.tc_model.specs.XmlTextRefusals.{xml_space, QuotedRefuses, AttributesRefuse, space, value, past_attribute, ElementRefuses, depth, too_deep}
+use Rattle.tc_model.specs.XmlTextContent.{Piece, AttributesAt, no_more, attribute, TagAt, ContentAt, at_end_tag, item, ItemAt, character_data, reference, cdata, comment, instruction, child, ElementAt, empty_tag, with_content}
+use Rattle.tc_model.specs.XmlTextRefusals.{past_attribute, ElementRefuses, depth, too_deep}
 use Rattle.tc_model.proofs.XmlTextPhrases.{same_others, qname_unique, equals_unique, quoted_unique}
 use Rattle.tc_model.proofs.XmlTextUnique.{no_tag_end, attributes_unique}
 use Rattle.tc_xml.specs.declared.faults.Stop.{Stop}

@@ -1,9 +1,8 @@
 -- End tags that are the bytes of a name.
-use Rattle.std.proofs.Common.{◌≡◌, ◌≢◌, ℕ, ◌<◌, false, List, [], ◌∷◌, ◌++◌, refl, ap, ◌∙◌, sym, length, get_or, arith, codes, length-append, IsTrue}
+use Rattle.std.proofs.Common.{◌≡◌, ◌≢◌, ℕ, List, [], ◌∷◌, ◌++◌, refl, ap, ◌∙◌, sym, length, get_or, arith, codes, length-append}
 use Rattle.std.specs.Prelude.{encode_utf8, encode_utf8_all, Option, None, Some, MatchOption, IfSome}
-use Rattle.std.proofs.lemmas.Bool.{true≢false}
-use Rattle.std.proofs.lemmas.Str.{char_from_byte, length-encode, len_utf8_bounds}
-use Rattle.tc_model.specs.Names.{IsNcName, is_ncname_char}
+use Rattle.std.proofs.lemmas.Str.{length-encode, len_utf8_bounds}
+use Rattle.tc_model.specs.Names.{IsNcName}
 use Rattle.tc_model.specs.XmlTextNames.{QualifiedName, QNameAt, unprefixed, prefixed}
 use Rattle.tc_xml.specs.Reading.{EndTagAt}
 use Rattle.tc_model.specs.XmlTextBytes.{after_white}

@@ -5,10 +5,10 @@ pub mod ValueLaws
 pub mod ScopeLaws
 pub mod BindingLaws
 pub mod TagLaws
-pub mod TwiceLaws
 pub mod GatherLaws
 pub mod ContentLaws
 pub mod MemoryLaws
+pub mod CharacterDataLaws
 pub mod ItemLaws
 pub mod ElementLaws
 pub mod RootLaws

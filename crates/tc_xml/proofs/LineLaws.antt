@@ -1,16 +1,14 @@
 -- Line ends and spaces of characters that are kept.
-use Rattle.std.proofs.Common.{◌≡◌, ℕ, suc, ◌+◌, ◌<◌, Bool, true, false, cond, not, ◌||◌, ◌&&◌, ◌==◌, List, [], ◌∷◌, ◌++◌, refl, ap, ◌∙◌, sym, subst, length, take, drop, get_or, arith, append_assoc, length-drop, Option, Some, take_all, append-nil}
+use Rattle.std.proofs.Common.{◌≡◌, ℕ, suc, ◌+◌, ◌<◌, Bool, true, false, cond, not, ◌==◌, List, [], ◌∷◌, ◌++◌, refl, ap, ◌∙◌, sym, subst, length, take, drop, get_or, arith, append_assoc, take_all, append-nil}
 use Rattle.std.specs.Prelude.{encode_utf8}
 use Rattle.std.specs.List.{prefix_len}
 use Rattle.std.proofs.lemmas.Bool.{true≢false, eqb-true}
 use Rattle.std.proofs.lemmas.List.{drop_more, drop_all}
 use Rattle.std.proofs.lemmas.List.Sums.{prefix_len_stops}
 use Rattle.std.proofs.lemmas.Str.{encode_ascii}
-use Rattle.memchr.specs.Find.{IsFirstByte}
 use Rattle.tc_model.specs.XmlTextBytes.{begins_with, line_ends}
-use Rattle.tc_model.specs.XmlTextReferences.{spaced}
 use Rattle.tc_tags.specs.Values.{past_line_end}
-use Rattle.tc_tags.proofs.LineLaws.{at_return, not_break}
+use Rattle.tc_tags.proofs.LineLaws.{at_return}
 
 abbrev pub not_return : ℕ → Bool
 not_return b = not (b == 0xD)

@@ -1,30 +1,27 @@
 -- Where Malformed is said, reading comes to nothing that is refused.
-use Rattle.std.proofs.Common.{◌≡◌, ◌≢◌, ℕ, suc, ◌-◌, true, false, List, ◌∷◌, ◌++◌, refl, ◌∙◌, sym, subst, length, arith, codes, IsTrue, Result, Ok, Err, IfErr}
+use Rattle.std.proofs.Common.{◌≡◌, ◌≢◌, ℕ, suc, ◌-◌, true, false, List, ◌∷◌, ◌++◌, refl, ◌∙◌, sym, subst, length, arith, codes, Result, Ok, Err, IfErr}
 use Rattle.tc_base.specs.declared.reasons.Why.{Why}
 use Rattle.tc_model.specs.Names.{ExpandedName}
 use Rattle.tc_model.specs.RawTrees.{Attribute, Bound, RawTrees}
 use Rattle.tc_model.specs.XmlText.{after_mark}
-use Rattle.tc_model.specs.XmlTextBytes.{BeginsWithWhite, after_white, EqualsAt, IsQuote}
-use Rattle.tc_model.specs.XmlTextNames.{QualifiedName, same_written, QNameAt}
-use Rattle.tc_model.specs.XmlTextReferences.{QuotedAt}
+use Rattle.tc_model.specs.XmlTextNames.{QualifiedName, QNameAt}
 use Rattle.tc_model.specs.XmlTextMisc.{SettingAt, IsReadEncoding, EncodingAt, DeclarationAt, MiscAt, DoctypeFrontAt, DoctypeAt}
-use Rattle.tc_model.specs.XmlTextScopes.{WrittenAttribute, first_scope}
-use Rattle.tc_model.specs.XmlTextContent.{Piece, AttributesAt, TagAt, ContentAt, ItemAt, reference, ElementAt}
+use Rattle.tc_model.specs.XmlTextScopes.{first_scope}
+use Rattle.tc_model.specs.XmlTextContent.{Piece, TagAt, ContentAt, ItemAt, reference, ElementAt}
 use Rattle.tc_model.specs.XmlTextRefusals.{Cause, QuotedRefuses, ValueRefuses, past_run, past_reference, xml_space, AttributesRefuse, space, value, past_attribute, TagRefuses, ContentRefuses, child, past_item, ElementRefuses, depth, tag, inside, DeclarationRefuses, version, encoding, DocumentRefuses, subset, element}
 use Rattle.tc_model.specs.XmlTextRefusals as r
-use Rattle.tc_model.proofs.XmlTextPhrases.{same_first, same_others, no_qname, qname_unique, equals_unique, setting_unique, declaration_unique, doctype_front_unique, doctype_unique}
+use Rattle.tc_model.proofs.XmlTextPhrases.{same_first, same_others, no_qname, setting_unique, declaration_unique, doctype_front_unique, doctype_unique}
 use Rattle.tc_model.proofs.XmlTextUnique.{tag_unique}
-use Rattle.tc_model.proofs.XmlTextRefused.{Begins, as_reference, attributes_no_list, tag_no_tag, element_begins, content_no_content, element_no_element, start_same, encoding_no_encoding, declaration_no_declaration, front_same, subset_no_doctype}
+use Rattle.tc_model.proofs.XmlTextRefused.{Begins, as_reference, tag_no_tag, element_begins, content_no_content, element_no_element, start_same, encoding_no_encoding, declaration_no_declaration, front_same, subset_no_doctype}
 use Rattle.tc_xml.specs.declared.faults.Stop.{Stop}
 use Rattle.tc_xml.specs.declared.faults.Stop.TheVariants.{Malformed, Unsupported, TooDeep, NoMemory}
 use Rattle.tc_xml.specs.Reading.{BodyRefuses, LacksItem}
 use Rattle.tc_xml.specs.Refusals.{Refuses, RefusesWithin, OnMalformed}
-use Rattle.tc_xml.specs.Tags.{lacks_space, Breaks}
+use Rattle.tc_xml.specs.Tags.{Breaks}
 use Rattle.tc_tags.specs.Values as pieces
 use Rattle.tc_tags.specs.Values.{PieceAt}
 use Rattle.tc_xml.proofs.ContentLaws.{tag_loosened, item_loosened}
-use Rattle.tc_tags.proofs.FormLaws.{past_name}
-use Rattle.tc_tags.proofs.TagLaws.{quoted_loosened, reference_loosened}
+use Rattle.tc_tags.proofs.TagLaws.{reference_loosened}
 
 -- from what else is said there
 

@@ -1,18 +1,12 @@
 -- What is refused in a phrase whose first part is read is refused behind that part.
-use Rattle.std.proofs.Common.{◌≡◌, ℕ, false, List, refl, sym, subst}
-use Rattle.tc_base.specs.declared.reasons.Why.{Why}
+use Rattle.std.proofs.Common.{ℕ, false, List, subst}
 use Rattle.tc_model.specs.RawTrees.{Bound}
-use Rattle.tc_model.specs.XmlTextBytes.{after_white, EqualsAt}
-use Rattle.tc_model.specs.XmlTextNames.{QualifiedName, same_written, QNameAt}
-use Rattle.tc_model.specs.XmlTextReferences.{QuotedAt}
-use Rattle.tc_model.specs.XmlTextScopes.{WrittenAttribute}
 use Rattle.tc_model.specs.XmlTextContent.{Piece, ItemAt}
 use Rattle.tc_model.specs.XmlTextRefusals.{Cause, ValueRefuses, past_run, past_reference, QuotedRefuses, xml_space, AttributesRefuse, space, value, past_attribute, ContentRefuses, child, past_item}
 use Rattle.tc_model.specs.XmlTextRefusals as r
-use Rattle.tc_model.proofs.XmlTextPhrases.{run_unique, reference_unique, reference_no_run, qname_unique, equals_unique, quoted_unique}
+use Rattle.tc_model.proofs.XmlTextPhrases.{run_unique, reference_unique, reference_no_run}
 use Rattle.tc_model.proofs.XmlTextUnique.{item_unique}
-use Rattle.tc_model.proofs.XmlTextRefused.{as_reference, other_no_reference, quoted_no_quoted, not_space, other_no_item, element_no_item}
-use Rattle.tc_xml.specs.Reading.{AttributeAt}
+use Rattle.tc_model.proofs.XmlTextRefused.{as_reference, other_no_reference, other_no_item, element_no_item}
 use Rattle.tc_tags.specs.Values as pieces
 use Rattle.tc_tags.specs.Values.{PieceAt}
 

@@ -16,7 +16,7 @@ use Rattle.tc_model.specs.XmlTextContent as c
 use Rattle.tc_model.specs.XmlTextScopes.{WrittenAttribute, is_empty, is_declaration, is_xml_space, bound_in, IsLawfulBinding, scope_within, uri_of, ElementName, Expands, no_more, declaration, plain, prefixed}
 use Rattle.tc_xml.specs.Bounds.{bound_to}
 use Rattle.tc_xml.specs.Bindings.{Tells, now_bound, shown}
-use Rattle.tc_xml.specs.Pairs.{Pair, same_pair}
+use Rattle.tc_tags.specs.Pairs.{Pair, same_pair}
 use Rattle.tc_xml.specs.PlainTags.{as_written, as_expanded, expanded_name, IsLawful, DeclarationRead, ValueRead, AttributeRead, AttributesRead, AllRead, AreExpanded}
 use Rattle.tc_xml.specs.Tags.{is_declaring, declared_prefix}
 use Rattle.tc_xml.specs.declared.bindings.Bindings.{Bindings}
@@ -123,6 +123,10 @@ all_read {total = total} {past = past} rest p e ends = record {
 
 abbrev pub named_by : List ℕ → List ℕ → ExpandedName
 named_by uri local = record { uri = uri; local = local }
+
+-- a name by the bytes of its parts
+pub named_alike : {uri local u l : List ℕ} → u ≡ uri → l ≡ local → Some (named_by uri local) ≡ Some (named_by u l)
+named_alike {local = local} {u = u} e f = ap (λ w. Some (named_by w local)) (sym e) ∙ ap (λ w. Some (named_by u w)) (sym f)
 
 pub expands_declaring : (scope : List Bound) (n : QualifiedName) → is_declaring n ≡ true → expanded_name scope n ≡ Some (named_by xmlns_uri n.local)
 expands_declaring scope n e = ap (λ x. cond x (Some (named_by xmlns_uri n.local)) (cond (is_empty n.prefix) (Some (named_by [] n.local)) (option_map (λ u. named_by u n.local) (uri_of scope n.prefix)))) e

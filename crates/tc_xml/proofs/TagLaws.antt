@@ -1,9 +1,9 @@
 -- What start tags mean, part by part.
-use Rattle.std.proofs.Common.{◌≡◌, ℕ, ◌+◌, ◌<◌, Bool, true, false, List, [], ◌∷◌, ◌++◌, refl, ap, ◌∙◌, sym, subst, map, length, take, drop, get_or, Option, None, Some, MatchBool, take-append-drop}
+use Rattle.std.proofs.Common.{◌≡◌, ℕ, ◌+◌, ◌<◌, Bool, true, false, List, [], ◌∷◌, ◌++◌, refl, ap, ◌∙◌, sym, subst, map, length, take, drop, get_or, Option, None, Some, MatchBool, take-append-drop, ◌&&◌, bytes_eq}
 use Rattle.std.specs.List.{IsDistinct, AllByRecursion}
 use Rattle.std.specs.Option.{option_map, option_to_list}
 use Rattle.std.specs.Prelude.{Result, Ok, Err}
-use Rattle.std.specs.Result.{IfOk, IfErr, IsErrAnd}
+use Rattle.std.specs.Result.{IfErr, IsErrAnd}
 use Rattle.std.specs.Cmp.Lexicographic.{bytes_decides}
 use Rattle.std.proofs.lemmas.List.{drop_more, take_more, map-append}
 use Rattle.tc_model.specs.Names.{ExpandedName, same_name}
@@ -13,7 +13,7 @@ use Rattle.tc_model.specs.declared.tree.RawAttr.{RawAttr}
 use Rattle.tc_model.specs.XmlTextNames.{QualifiedName, same_written}
 use Rattle.tc_model.specs.XmlTextScopes.{WrittenAttribute, is_empty, is_declaration, binding_of, uri_of, scope_within, IsLawfulBinding, Expands, no_more, declaration, plain, prefixed, ElementName, bound, unbound, TagMeans}
 use Rattle.tc_xml.specs.Bounds.{bound_to}
-use Rattle.tc_xml.specs.Pairs.{Pair, same_pair}
+use Rattle.tc_tags.specs.Pairs.{Pair, same_pair}
 use Rattle.tc_xml.specs.Tags.{written, Breaks}
 use Rattle.tc_xml.specs.declared.faults.Stop.{Stop}
 use Rattle.tc_xml.specs.declared.faults.Stop.TheVariants.{Malformed, Unsupported, TooDeep, NoMemory}
@@ -89,12 +89,12 @@ no_expansion scope all i d l h found k =
     let (one, e) = expands_at (map written (take i all)) (map written (drop (i + 1) all)) (written (get_or all i d)) found (subst (λ w. Expands scope w found) (split_at all i d l) k) in
     h one e
 
--- pairs all names
+-- pairs as names, the expanded ones with their local part first
 abbrev pub pair_name : Pair → QualifiedName
 pair_name p = record { prefix = p.0.now; local = p.1.now }
 
 abbrev pub pair_expanded : Pair → ExpandedName
-pair_expanded p = record { uri = p.0.now; local = p.1.now }
+pair_expanded p = record { uri = p.1.now; local = p.0.now }
 
 differ_written : (p : Pair) (ps : List Pair) → AllByRecursion (λ q. same_pair p q ≡ false) ps → AllByRecursion (λ n. same_written (pair_name p) n ≡ false) (map pair_name ps)
 differ_written p [] h = tt
@@ -114,13 +114,22 @@ unfolding IsDistinct
 distinct_pairs [] h = tt
 distinct_pairs (p ∷ ps) h = (differ_pairs p ps h.0, distinct_pairs ps h.1)
 
+both_turned : (x y : Bool) → x && y ≡ y && x
+both_turned true true = refl
+both_turned true false = refl
+both_turned false true = refl
+both_turned false false = refl
+
+name_turned : (p q : Pair) → same_name (pair_expanded p) (pair_expanded q) ≡ same_pair p q
+name_turned p q = both_turned (bytes_eq p.1.now q.1.now) (bytes_eq p.0.now q.0.now)
+
 differ_expanded : (p : Pair) (ps : List Pair) → AllByRecursion (λ q. same_pair p q ≡ false) ps → AllByRecursion (λ n. same_name (pair_expanded p) n ≡ false) (map pair_expanded ps)
 differ_expanded p [] h = tt
-differ_expanded p (q ∷ ps) h = (h.0, differ_expanded p ps h.1)
+differ_expanded p (q ∷ ps) h = (name_turned p q ∙ h.0, differ_expanded p ps h.1)
 
 differ_both : (p : Pair) (ps : List Pair) → AllByRecursion (λ n. same_name (pair_expanded p) n ≡ false) (map pair_expanded ps) → AllByRecursion (λ q. same_pair p q ≡ false) ps
 differ_both p [] h = tt
-differ_both p (q ∷ ps) h = (h.0, differ_both p ps h.1)
+differ_both p (q ∷ ps) h = (sym (name_turned p q) ∙ h.0, differ_both p ps h.1)
 
 pub distinct_expanded : (ps : List Pair) → IsDistinct same_pair ps → IsDistinct same_name (map pair_expanded ps)
 unfolding IsDistinct
@@ -162,16 +171,6 @@ all_more scope all i d old new o l h k e =
     one : (o : Option RawAttr) → map attribute (option_to_list o) ≡ option_to_list (option_map attribute o)
     one None = refl
     one (Some x) = refl
-
-pub all_written_once : (r : Result Bool Stop) (ps : List Pair) (names : List QualifiedName) → map pair_name ps ≡ names → IfOk r (λ b. MatchBool b (IsDistinct same_pair ps) (IsDistinct same_pair ps → ⊥))
-    → IfOk r (λ b. MatchBool b (IsDistinct same_written names) (IsDistinct same_written names → ⊥))
-all_written_once (Ok b) ps names e h = once_written b ps names e h
-all_written_once (Err x) ps names e h = tt
-
-pub all_expanded_once : (r : Result Bool Stop) (ps : List Pair) (names : List ExpandedName) → map pair_expanded ps ≡ names → IfOk r (λ b. MatchBool b (IsDistinct same_pair ps) (IsDistinct same_pair ps → ⊥))
-    → IfOk r (λ b. MatchBool b (IsDistinct same_name names) (IsDistinct same_name names → ⊥))
-all_expanded_once (Ok b) ps names e h = once_expanded b ps names e h
-all_expanded_once (Err x) ps names e h = tt
 
 -- attributes have one expansion
 same_uri : {u v : List ℕ} {o : Option (List ℕ)} → o ≡ Some u → o ≡ Some v → u ≡ v

@@ -1,20 +1,11 @@
 -- Attribute values, piece by piece.
-use Rattle.std.proofs.Common.{◌≡◌, inl, inr, ℕ, ◌+◌, ◌<◌, Bool, true, false, not, ◌||◌, ◌==◌, List, [], ◌∷◌, ◌++◌, refl, ap, ◌∙◌, sym, subst, length, take, drop, get_or, arith, IsUtf8, IsCharBoundary, append_assoc, append-nil, take-append-drop, length-take, ◌≢◌, length-append, nat_lt, Result, Ok, Err}
-use Rattle.std.specs.Prelude.{codes}
-use Rattle.std.specs.List.{prefix_len}
+use Rattle.std.proofs.Common.{◌≡◌, ℕ, Bool, true, false, List, [], ◌∷◌, ◌++◌, refl, ap, ◌∙◌, sym, subst, append_assoc, append-nil, Result, Ok, Err}
 use Rattle.std.specs.Result.{IfErr, IsErrAnd}
-use Rattle.std.proofs.lemmas.Bool.{true≢false, eqb-true, eq-eqb}
-use Rattle.std.proofs.lemmas.List.Sums.{prefix_len_stops, prefix_len-le-length}
-use Rattle.std.proofs.lemmas.List.{get_or_at, drop_at}
-use Rattle.std.proofs.lemmas.Str.{IsCharBoundary-before_ascii, IsCharBoundary-after_ascii, IsCharBoundary-end, IsUtf8-drop}
-use borrow.Author.Tests.{ltb-true, ltb-false}
-use Rattle.tc_model.specs.XmlTextBytes.{RunAt, IsQuote}
-use Rattle.tc_model.specs.XmlTextReferences.{is_digit, is_plain_within, ReferenceAt, decimal, hexadecimal, entity, other, ValueAt, closed, plain, reference, QuotedAt}
-use Rattle.tc_model.proofs.XmlTextPhrases.{same_first, same_others, run_unique, run_unless, reference_unique, reference_first}
+use Rattle.tc_model.specs.XmlTextBytes.{IsQuote}
+use Rattle.tc_model.specs.XmlTextReferences.{ReferenceAt, decimal, hexadecimal, entity, other, ValueAt, closed, plain, reference, QuotedAt}
+use Rattle.tc_model.proofs.XmlTextPhrases.{same_first, same_others, run_unique, reference_unique}
 use Rattle.tc_base.specs.declared.reasons.Why.{Why}
 use Rattle.tc_xml.specs.Refusals.{Refuses, UnsupportedAt}
-use Rattle.tc_model.specs.XmlTextRefusals.{OtherEntityAt, ValueRefuses, past_run, past_reference, QuotedRefuses}
-use Rattle.tc_model.specs.XmlTextRefusals as refused
 use Rattle.tc_xml.proofs.PastLaws.{past_piece}
 use Rattle.tc_tags.specs.Values as pieces
 use Rattle.tc_tags.specs.Values.{PieceAt}

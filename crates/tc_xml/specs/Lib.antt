@@ -1,7 +1,6 @@
 pub mod Refusals
 pub mod Faults
 pub mod Bounds
-pub mod Pairs
 pub mod Tags
 pub mod Views
 pub mod Reading
@@ -10,3 +9,4 @@ pub mod Taking
 pub mod Building
 pub mod Bindings
 pub mod PlainTags
+pub mod CharacterData

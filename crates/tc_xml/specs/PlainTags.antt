@@ -11,18 +11,18 @@ use Rattle.tc_model.specs.XmlTextScopes.{WrittenAttribute, is_empty, is_declarat
 use Rattle.tc_scan.specs.Views.{written_name}
 use Rattle.tc_xml.specs.Bindings.{Tells, Binds, Declares, now_bound}
 use Rattle.tc_xml.specs.Bounds.{bound_to}
-use Rattle.tc_xml.specs.Pairs.{Pair}
+use Rattle.tc_tags.specs.Pairs.{Pair}
 use Rattle.tc_xml.specs.Reading.{AttributeAt}
 use Rattle.tc_xml.specs.Tags.{is_declaring, declared_prefix}
 use Rattle.tc_xml.specs.declared.bindings.Bindings.{Bindings}
 use Rattle.tc_xml.specs.declared.plain_tags.Tag.{Tag}
 
--- a name as it is written, and an expanded one, in two parts
+-- a name as it is written in two parts, and an expanded one, whose local part comes first
 abbrev pub as_written : Pair → QualifiedName
 as_written p = record { prefix = p.0.now; local = p.1.now }
 
 abbrev pub as_expanded : Pair → ExpandedName
-as_expanded p = record { uri = p.0.now; local = p.1.now }
+as_expanded p = record { uri = p.1.now; local = p.0.now }
 
 -- The name by which an attribute with this name is told from others, if it has one: its expanded name, but that a declaration is put into the
 -- namespace of declarations, `xmlns` too, which by Namespaces 6.2 has none. In a lawful scope no other attribute is in it: so names that are written

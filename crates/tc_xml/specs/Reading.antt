@@ -1,10 +1,7 @@
 -- The steps in which tags and content are read, and what they say of what is gathered.
-use Rattle.std.specs.Prelude.{◌≡◌, ℕ, Bool, false, List, ◌∷◌, ◌++◌, IsFalse, codes}
+use Rattle.std.specs.Prelude.{◌≡◌, ℕ, Bool, false, List, ◌∷◌, ◌++◌, codes}
 use Rattle.tc_model.specs.RawTrees.{Bound, RawTrees, none, text, element}
-use Rattle.tc_model.specs.XmlTextBytes.{BeginsWithWhite, after_white, EqualsAt, place_of}
 use Rattle.tc_model.specs.XmlTextNames.{QualifiedName, QNameAt}
-use Rattle.tc_model.specs.XmlTextReferences.{QuotedAt}
-use Rattle.tc_model.specs.XmlTextScopes.{WrittenAttribute, is_xml_space}
 use Rattle.tc_model.specs.XmlTextContent.{Piece, piece_before, ContentAt, ItemAt}
 use Rattle.tc_model.specs.XmlTextRefusals.{Cause, ContentRefuses}
 use Rattle.tc_xml.specs.declared.content.Gathered.{Gathered}

@@ -1,10 +1,9 @@
 -- What contracts see of the attributes of a tag, and of why a tag is refused.
-use Rattle.std.specs.Prelude.{ℕ, Bool, ◌||◌, ◌&&◌, not, List, [], map, bytes_eq, codes, if◌then◌else◌}
-use Rattle.std.specs.List.{list_all}
+use Rattle.std.specs.Prelude.{ℕ, Bool, ◌||◌, ◌&&◌, List, [], map, bytes_eq, codes, if◌then◌else◌}
 use Rattle.tc_model.specs.RawTrees.{Bound}
 use Rattle.tc_model.specs.Views.{place, bound}
 use Rattle.tc_model.specs.XmlTextNames.{QualifiedName}
-use Rattle.tc_model.specs.XmlTextScopes.{WrittenAttribute, is_empty, is_xml_space}
+use Rattle.tc_model.specs.XmlTextScopes.{WrittenAttribute, is_empty}
 use Rattle.tc_scan.specs.Views.{written_name}
 use Rattle.tc_xml.specs.declared.faults.Stop.{Stop}
 use Rattle.tc_xml.specs.declared.faults.Stop.TheVariants.{Malformed, Unsupported, TooDeep, NoMemory}

@@ -21,6 +21,7 @@ ghost use Rattle.tc_xml.specs.Refusals.{Refuses, RefusesWithin, UnsupportedAt, R
 ghost use Rattle.tc_xml.specs.Views.{run_before, gathered_before};
 ghost use Rattle.tc_xml.specs.Tags.{written, in_scope, lacks_space, Breaks};
 
+use crate::character_data::character_data;
 use crate::faults::{Stop, place_of};
 use crate::misc::{after_comment, after_instruction, cdata};
 use crate::references::{push_lines, quoted, reference};
@@ -28,13 +29,12 @@ use crate::scopes::Scope;
 use crate::tags::{Meaning, Written, first_scope, meaning_of};
 use bumpalo::Bump;
 use bumpalo::collections::{into_bump_slice, into_bump_str};
-use memchr::memchr3;
 use std::mem;
 use tc_base::{NoMemory, Place, Why};
 use tc_model::{Raw, RawElem};
 use tc_scan::{
     QualifiedName, after_byte, after_equals, after_mark, after_some_white, after_white,
-    begins as begins_mark, plain_len, qname, up_to,
+    begins as begins_mark, qname,
 };
 
 /// A tag up to where it ends: its name as it is written, what it means, and what follows.
@@ -155,6 +155,16 @@ fn opens_element(text: &str) -> bool
     }
 }
 
+/// How many bytes are left where a tag is refused whose names mean nothing: at its front, or, where it doesn't end as a
+/// tag does, there.
+fn left_at(text: &str, rest: &str) -> usize {
+    if begins(rest, b'/') && !begins_mark(rest, "/>") {
+        rest.len()
+    } else {
+        text.len()
+    }
+}
+
 /// The start tag or empty-element tag at the front, up to where it ends.
 #[inline(never)]
 pub(crate) fn open_tag<'b, 't>(
@@ -186,7 +196,8 @@ pub(crate) fn open_tag<'b, 't>(
         return Err(Stop::Malformed(start.len()));
     };
     let (list, rest) = attributes(arena, total, behind)?;
-    let meaning = meaning_of(arena, outer, written, list.as_slice(), text.len())?;
+    let left = left_at(text, rest);
+    let meaning = meaning_of(arena, outer, written, list.as_slice(), left)?;
     Ok(OpenTag {
         written,
         meaning,
@@ -349,54 +360,6 @@ fn characters<'t>(gathered: &mut Gathered<'_>, total: usize, text: &'t str) -> R
     };
     gather_characters(gathered, run, place_of(total, text.len()))?;
     Ok(rest)
-}
-
-/// How many bytes stand before the first `<` or `&`, or before the end, where no `]` stands among them.
-fn clear_len(text: &str) -> Option<usize>
-    ensures { IfSome result (λ count. (count ≡ prefix_len references.is_plain text.now)
-        × bytes.Lacks (codes "]]>") (take count text.now)) }
-{
-    let bytes = text.as_bytes();
-    let Some(count) = memchr3(b'<', b'&', b']', bytes) else {
-        return Some(bytes.len());
-    };
-    if bytes[count] == b']' {
-        return None;
-    }
-    Some(count)
-}
-
-/// The character data at the front, which may have a `]`, and what follows it.
-#[inline(never)]
-fn guarded_data(text: &str) -> Option<(&str, &str)>
-    ensures { MatchOption result
-        ((run after : List ℕ) → references.CharacterDataAt text.now run after → ⊥)
-        (λ r. references.CharacterDataAt text.now r.0.now r.1.now) }
-{
-    let count = plain_len(text);
-    if count == 0 {
-        return None;
-    }
-    let (run, rest) = text.split_at(count);
-    match up_to(run, "]]>") {
-        Some(_) => None,
-        None => Some((run, rest)),
-    }
-}
-
-/// The character data at the front, and what follows it (XML 1.0, 2.4).
-pub(crate) fn character_data(text: &str) -> Option<(&str, &str)>
-    ensures { MatchOption result
-        ((run after : List ℕ) → references.CharacterDataAt text.now run after → ⊥)
-        (λ r. references.CharacterDataAt text.now r.0.now r.1.now) }
-{
-    let Some(count) = clear_len(text) else {
-        return guarded_data(text);
-    };
-    if count == 0 {
-        return None;
-    }
-    Some(text.split_at(count))
 }
 
 /// Reads the comment or the CDATA section at the front, and gives what follows.

@@ -12,6 +12,7 @@ ghost use Rattle.tc_xml.specs.Faults.{IsFaultOf};
 
 mod bindings;
 mod building;
+mod character_data;
 mod content;
 mod document;
 mod documents;
@@ -25,7 +26,6 @@ mod spelled;
 mod stripping;
 mod tags;
 mod taking;
-mod twice;
 
 use bumpalo::Bump;
 use document::document;

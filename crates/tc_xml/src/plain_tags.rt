@@ -1,7 +1,8 @@
 // Start tags whose attributes are read, and dropped (XML 1.0, 3.1; Namespaces in XML 1.0, 3, 5 and 6). Where
 // anything is unusual this gives up, and what it gives is what the tag means.
 // Attributes are told apart by one list of expanded names. A declaration stands in it in the namespace of
-// declarations, in which no other name is.
+// declarations, in which no other name is. The local part comes first, so that namespace names, which may be long, are
+// compared only where the local parts are the same.
 ghost use Rattle.std.specs.Prelude.{◌≡◌, ℕ, List, Some, IfSome};
 ghost use Rattle.tc_model.specs.RawTrees.{Bound};
 ghost use Rattle.tc_model.specs.Views.{name as seen_name};
@@ -14,10 +15,10 @@ use crate::bindings::Bindings;
 use crate::content::{ends_tag, is_xml_space};
 use crate::references::{after_quoted, quoted};
 use crate::tags::{XMLNS, declared_by, is_lawful};
-use crate::twice::all_differ_sorted;
 use bumpalo::Bump;
 use tc_model::Name;
 use tc_scan::{QualifiedName, after_byte, after_equals, after_some_white, after_white, qname};
+use tc_tags::all_differ;
 
 /// A tag up to where it ends: its name as it is written and as it is meant, and what follows.
 #[derive(Clone, Copy)]
@@ -32,7 +33,7 @@ pub(crate) struct Tag<'b> {
 #[derive(Drop)]
 pub(crate) struct AttributeNames<'b> {
     written: Vec<(&'b str, &'b str), &'b Bump>,
-    expanded: Vec<(&'b str, &'b str), &'b Bump>,
+    expanded: Vec<(&'b [u8], &'b [u8]), &'b Bump>,
 }
 
 impl<'b> AttributeNames<'b> {
@@ -129,7 +130,7 @@ fn read_attributes<'b>(
 }
 
 /// The name by which the attribute with this name is told from others: its expanded name, which without a prefix has no
-/// namespace (Namespaces, 6.2). A declaration is put into the namespace of declarations, `xmlns` too, which has no prefix.
+/// namespace (Namespaces, 6.2); its local part comes first. A declaration is put into the namespace of declarations, `xmlns` too, which has no prefix.
 fn expand<'b>(bindings: &Bindings<'b>, name: &(&'b str, &'b str)) -> Option<(&'b str, &'b str)>
     ensures { IfSome result
         (λ r. (scope : List Bound) → Tells (now_bound bindings.now) scope
@@ -137,27 +138,27 @@ fn expand<'b>(bindings: &Bindings<'b>, name: &(&'b str, &'b str)) -> Option<(&'b
 {
     let (prefix, local) = *name;
     if let Some(_) = declared_by(QualifiedName { prefix, local }) {
-        return Some((XMLNS, local));
+        return Some((local, XMLNS));
     }
     if prefix == "" {
-        return Some(("", local));
+        return Some((local, ""));
     }
     let uri = bindings.uri_of(prefix)?;
-    Some((uri, local))
+    Some((local, uri))
 }
 
 /// The same of the attributes with these names.
 fn expand_all<'b>(
     bindings: &Bindings<'b>,
     names: &[(&'b str, &'b str)],
-    expanded: &mut Vec<(&'b str, &'b str), &'b Bump>,
+    expanded: &mut Vec<(&'b [u8], &'b [u8]), &'b Bump>,
 ) -> Option<()>
     ensures { IfSome result (λ _. AreExpanded bindings.now names.now expanded.new.items) }
 {
     expanded.clear();
     for name in names {
-        let meant = expand(bindings, name)?;
-        let Ok(()) = expanded.push(meant) else {
+        let (local, uri) = expand(bindings, name)?;
+        let Ok(()) = expanded.push((local.as_bytes(), uri.as_bytes())) else {
             return None;
         };
     }
@@ -199,7 +200,7 @@ pub(crate) fn read_tag<'b>(
     let rest = read_attributes(arena, bindings, &mut names.written, behind)?;
     let name = name_within(bindings, written)?;
     expand_all(bindings, names.written.as_slice(), &mut names.expanded)?;
-    if !all_differ_sorted(arena, &mut names.expanded) {
+    if !all_differ(&mut names.expanded) {
         return None;
     }
     Some(Tag {

@@ -42,7 +42,7 @@ impl<'b> Scope<'b> {
         ensures ok { IfOk result (λ r. map bound r.now ≡ named names.now) }
         ensures no { IfErr result (λ e. Breaks e ⊥) }
     {
-        let mut bindings = Vec::new(arena);
+        let mut bindings = Vec::with_capacity(arena, names.len())?;
         for (prefix, uri) in names {
             bindings.push(Binding { prefix, uri })?;
         }

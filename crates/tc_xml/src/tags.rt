@@ -13,13 +13,13 @@ ghost use Rattle.tc_xml.specs.Tags.{written, in_scope, lacks_space, is_declaring
 
 use crate::faults::Stop;
 use crate::scopes::{Names, Scope};
-use crate::twice::all_differ;
 use bumpalo::Bump;
 use bumpalo::collections::into_bump_slice;
 use indexmap::IndexMap;
 use tc_base::{NoMemory, Place};
 use tc_model::{Name, RawAttr};
 use tc_scan::QualifiedName;
+use tc_tags::all_differ;
 
 /// The namespace of the prefix `xml`.
 const XML: &str = "http://www.w3.org/XML/1998/namespace";
@@ -280,9 +280,10 @@ fn are_written_once(arena: &Bump, attributes: &[Written<'_, '_>]) -> Result<bool
 {
     let mut names = Vec::new(arena);
     for attribute in attributes {
-        names.push((attribute.name.prefix, attribute.name.local))?;
+        let name = attribute.name;
+        names.push((name.prefix.as_bytes(), name.local.as_bytes()))?;
     }
-    all_differ(arena, into_bump_slice(names))
+    Ok(all_differ(&mut names))
 }
 
 /// Whether no two attributes have one expanded name (Namespaces, 6.3).
@@ -294,9 +295,10 @@ fn are_expanded_once(arena: &Bump, attributes: &[RawAttr<'_>]) -> Result<bool, S
 {
     let mut names = Vec::new(arena);
     for attribute in attributes {
-        names.push((attribute.name.uri, attribute.name.local))?;
+        let name = attribute.name;
+        names.push((name.local.as_bytes(), name.uri.as_bytes()))?;
     }
-    all_differ(arena, into_bump_slice(names))
+    Ok(all_differ(&mut names))
 }
 
 /// What a tag with this name and these attributes means, where this scope is within it. The fault says how many

@@ -17,7 +17,8 @@ ghost use Rattle.tc_xml.specs.Reading.{EndTagAt, SmallItemAt};
 ghost use Rattle.tc_xml.specs.Spelled.{AreRight};
 ghost use Rattle.tc_xml.specs.Taking.{Took, StandsAt, StandsAfter, Finished, IsWithin, waiting};
 
-use crate::content::{after_end_tag, begins, character_data};
+use crate::character_data::{clear_data, guarded_data};
+use crate::content::{after_end_tag, begins};
 use crate::document::before_root;
 use crate::levels::{Levels, Open};
 use crate::misc::{after_comment, after_instruction, after_misc, cdata};
@@ -102,6 +103,24 @@ fn add_characters<'b, T: TakesTrees<'b>>(reader: &mut Reader<'b, T>, more: &'b s
     Some(())
 }
 
+/// Adds characters that stand for themselves to the run.
+fn add_clear<'b, T: TakesTrees<'b>>(reader: &mut Reader<'b, T>, more: &'b str) -> Option<()>
+    ensures taker { IfSome result (λ _. reader.new.taker ≡ reader.old.taker) }
+    ensures run { IfSome result
+        (λ _. run_text reader.new.run ≡ run_text reader.old.run ++ more.now) }
+{
+    if let Run::Nothing = reader.run {
+        reader.run = Run::One(more);
+        return Some(());
+    }
+    let run = mem::replace(&mut reader.run, Run::Nothing);
+    let Ok(run) = extended(reader.arena, run, more) else {
+        return None;
+    };
+    reader.run = run;
+    Some(())
+}
+
 /// Adds a character to the run.
 fn add_character<'b, T: TakesTrees<'b>>(reader: &mut Reader<'b, T>, more: char) -> Option<()>
     ensures taker { IfSome result (λ _. reader.new.taker ≡ reader.old.taker) }
@@ -130,7 +149,11 @@ fn text_item<'b, T: TakesTrees<'b>>(
         add_character(reader, character)?;
         return Some(rest);
     }
-    let (run, rest) = character_data(text)?;
+    if let Some((run, rest)) = clear_data(text) {
+        add_clear(reader, run)?;
+        return Some(rest);
+    }
+    let (run, rest) = guarded_data(text)?;
     add_characters(reader, run)?;
     Some(rest)
 }

@@ -1,6 +1,8 @@
-use Rattle.std.proofs.Common.{subst, rules}
+use Rattle.std.proofs.Common.{subst}
+use Rattle.std.specs.List.{IsDistinct}
 use Rattle.tc_model.specs.Views.{name}
 use Rattle.tc_scan.specs.Views.{written_name}
+use Rattle.tc_tags.specs.Pairs.{same_pair}
 use Rattle.tc_xml.specs.PlainTags.{AreExpanded}
 use Rattle.tc_tags.proofs.FailedLaws.{failed_some}
 use Rattle.tc_xml.proofs.PlainTagLaws.{a_tag, tag_is_shorter}
@@ -18,7 +20,7 @@ returns c = λ total.
       reads =
           a_tag total c.args.bindings.now bindings c.args.text.now c.in_ok-start.start.now c.in_ok-written.behind.now c.in_ok-rest.rest.now (written_name c.in_ok-written.written) (name c.in_ok-name.name) names expanded
           c.in_ok-start.ensures c.in_ok-written.ensures read c.in_ok-name.ensures (subst (λ w. AreExpanded bindings w expanded) c.as_slice.ensures.value c.in_ok-expand_all.ensures)
-          (c.all_differ_sorted.ensures (search rules));
+          (subst (IsDistinct same_pair) c.deref_mut.ensures.value c.if-not-all_differ.ensures);
     }
 
 pub returns-in_err-start : goal.returns-in_err-start

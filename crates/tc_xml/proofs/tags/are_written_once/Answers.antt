@@ -1,15 +1,17 @@
-use Rattle.std.proofs.Common.{◌∙◌, ap, map, take_all}
+use Rattle.std.proofs.Common.{MatchBool, subst, ◌∙◌, ap, map, take_all}
 use Rattle.tc_xml.specs.Tags.{written}
+use Rattle.std.specs.List.{IsDistinct}
+use Rattle.tc_tags.specs.Pairs.{same_pair}
 use Rattle.tc_tags.proofs.FailedLaws.{failed_ok}
 use Rattle.tc_xml.proofs.MemoryLaws.{out_breaks}
-use Rattle.tc_xml.proofs.TagLaws.{all_written_once, pair_name}
+use Rattle.tc_xml.proofs.TagLaws.{once_written, pair_name}
 use Rattle.tc_xml.proofs.tags.are_written_once.Goals as goal
 
 pub returns-clause-ok : goal.returns-clause-ok
 returns-clause-ok c =
-    all_written_once c.all_differ.result c.into_bump_slice.result.now _
-    (ap (map pair_name) c.into_bump_slice.ensures ∙ (c.loop-attribute.invariant ∙ ap (λ w. map (λ a. a.name) (map written w)) (take_all c.loop-attribute.attribute-index c.args.attributes.now c.loop-attribute-test.false)))
-    c.all_differ.ensures.ok
+    once_written c.all_differ.result c.loop-attribute.names.items _
+    (c.loop-attribute.invariant ∙ ap (λ w. map (λ a. a.name) (map written w)) (take_all c.loop-attribute.attribute-index c.args.attributes.now c.loop-attribute-test.false))
+    (subst (λ w. MatchBool c.all_differ.result (IsDistinct same_pair w) (IsDistinct same_pair w → ⊥)) c.deref_mut.ensures.value c.all_differ.ensures)
 
 pub returns-in_err-push-clause-ok : goal.returns-in_err-push-clause-ok
 returns-in_err-push-clause-ok c = failed_ok _ _ _ c.from_residual.ensures.1

@@ -1,4 +1,4 @@
-use Rattle.std.proofs.Common.{refl, encode_utf8}
+use Rattle.std.proofs.Common.{refl, encode_utf8, ap, sym, ◌∙◌, ◌++◌}
 use Rattle.tc_model.specs.Runs.{run_text}
 use Rattle.tc_model.specs.XmlTextBytes.{line_ends, place_of}
 use Rattle.tc_model.specs.XmlTextContent.{characters}
@@ -25,6 +25,17 @@ returns g c =
       characters (line_ends run) p,
       data_item c.args.total text run c.in_ok-run.rest.now p c.in_ok-run.ensures refl,
       took_characters _ c.args.reader.now.taker _ (run_text c.args.reader.now.run) (line_ends run) _ p c.in_ok-add_characters.ensures.taker c.in_ok-add_characters.ensures.run,
+    )
+
+pub returns-in-Some : goal.returns-in-Some
+returns-in-Some g c =
+    let text = c.args.text.now in
+    let run = c.in-Some.run'.now in
+    let p = place_of c.args.total text in (
+      characters (line_ends run) p,
+      data_item c.args.total text run c.in-Some.rest.now p c.in-Some.ensures.0 refl,
+      took_characters _ c.args.reader.now.taker _ (run_text c.args.reader.now.run) (line_ends run) _ p c.in_ok-add_clear.ensures.taker
+          (c.in_ok-add_clear.ensures.run ∙ ap (λ w. run_text c.args.reader.now.run ++ w) (sym c.in-Some.ensures.1)),
     )
 
 pub returns-in_err-add_character : goal.returns-in_err-add_character

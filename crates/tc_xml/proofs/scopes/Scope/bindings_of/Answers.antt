@@ -12,11 +12,17 @@ returns-clause-ok c =
     let e : map deref_pair c.loop-prefix.yielded ≡ c.args.names.now.entries = search (rules, iter_end) in
     ap (map bound) c.into_bump_slice.ensures ∙ (c.loop-prefix.invariant ∙ ap bounds e)
 
+pub returns-in_err-bindings-clause-ok : goal.returns-in_err-bindings-clause-ok
+returns-in_err-bindings-clause-ok c = failed_ok _ _ _ c.from_residual.ensures.1
+
+pub returns-in_err-bindings-clause-no : goal.returns-in_err-bindings-clause-no
+returns-in_err-bindings-clause-no c = out_breaks _ _ c.from_residual.ensures.1
+
 pub returns-in_err-push-clause-ok : goal.returns-in_err-push-clause-ok
-returns-in_err-push-clause-ok c = failed_ok _ _ _ c.from_residual.ensures.1
+returns-in_err-push-clause-ok c = failed_ok _ _ _ c.from_residual-in_err-push.ensures.1
 
 pub returns-in_err-push-clause-no : goal.returns-in_err-push-clause-no
-returns-in_err-push-clause-no c = out_breaks _ _ c.from_residual.ensures.1
+returns-in_err-push-clause-no c = out_breaks _ _ c.from_residual-in_err-push.ensures.1
 
 pub loop-prefix-init : goal.loop-prefix-init
-loop-prefix-init c = ap (map bound) c.new-bindings.ensures.items
+loop-prefix-init c = ap (map bound) c.in_ok-bindings.ensures.items

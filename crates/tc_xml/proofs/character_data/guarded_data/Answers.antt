@@ -1,5 +1,5 @@
-use Rattle.tc_xml.proofs.ItemLaws.{cut_after_run, a_run}
-use Rattle.tc_xml.proofs.content.guarded_data.Goals as goal
+use Rattle.tc_xml.proofs.CharacterDataLaws.{cut_after_run, a_run}
+use Rattle.tc_xml.proofs.character_data.guarded_data.Goals as goal
 
 pub split_at-requires : goal.split_at-requires
 split_at-requires c = cut_after_run c.args.text.now c.plain_len-count.result c.plain_len-count.ensures.count

@@ -1,8 +1,8 @@
 use Rattle.std.proofs.Common.{◌∙◌, sym}
 use Rattle.std.proofs.lemmas.Bool.{true≢false}
-use Rattle.tc_xml.specs.Pairs.{Differs}
-use Rattle.tc_xml.proofs.TwiceLaws.{all_after, all_more, all_none, blank}
-use Rattle.tc_xml.proofs.twice.occurs.Goals as goal
+use Rattle.tc_tags.specs.Pairs.{Differs}
+use Rattle.tc_tags.proofs.PairLaws.{all_after, all_more, all_none, blank}
+use Rattle.tc_tags.proofs.distinct.occurs.Goals as goal
 
 pub returns-then-eq : goal.returns-then-eq
 returns-then-eq c = λ h.

@@ -1,9 +1,9 @@
 use Rattle.std.proofs.Common.{◌+◌, sym, subst, get_or}
 use Rattle.std.specs.List.{AllByRecursion}
 use Rattle.std.proofs.lemmas.List.{take_rest}
-use Rattle.tc_xml.specs.Pairs.{Differs}
-use Rattle.tc_xml.proofs.TwiceLaws.{differs_more, differs_after, none_differ, blank}
-use Rattle.tc_xml.proofs.twice.few_differ.Goals as goal
+use Rattle.tc_tags.specs.Pairs.{Differs}
+use Rattle.tc_tags.proofs.PairLaws.{differs_more, differs_after, none_differ, blank}
+use Rattle.tc_tags.proofs.distinct.few_differ.Goals as goal
 
 pub returns-then-occurs : goal.returns-then-occurs
 returns-then-occurs c = λ h.
