@@ -11,7 +11,7 @@ use Rattle.tc_model.specs.Validity.{IsValid}
 use Rattle.tc_model.proofs.NormalForm.{beside_none, beside_assoc, kept_beside}
 use Rattle.tc_steps.specs.Led.{IsStarted}
 use Rattle.tc_steps.specs.Moving.{AreRight, Keeps, IsElement, IsAfterText, IsAfterElement}
-use Rattle.tc_steps.specs.Judged.{Place, outside, within, put, ended, after, root_of, AreOpen, IsAt, Takes}
+use Rattle.tc_steps.specs.Judged.{Place, outside, within, put, ended, after, AreOpen, IsAt, Takes}
 use Rattle.tc_steps.specs.declared.judge.Judge.{Judge}
 use Rattle.tc_steps.specs.declared.moves.Moves.{Moves}
 use Rattle.tc_steps.specs.declared.moves.Opened.{Opened}

@@ -1,5 +1,5 @@
 -- What is known of sets, steps and names while a document is taken.
-use Rattle.std.proofs.Common.{◌≡◌, ◌↔◌, ◌∙◌, ℕ, List, Option, false, None, Some, IfSome, All, refl, sym, ap, subst, slice_get}
+use Rattle.std.proofs.Common.{◌≡◌, ◌↔◌, ◌∙◌, ℕ, List, Option, false, None, Some, IfSome, sym, ap, subst}
 use Rattle.std.proofs.lemmas.List.Elements.{All-weaker}
 use Rattle.std.proofs.lemmas.Option.{IfSome_then}
 use Rattle.tc_auto.specs.declared.auto.Auto.{Auto}
@@ -11,7 +11,7 @@ use Rattle.tc_model.specs.Views.{name}
 use Rattle.tc_sets.specs.Numbers.{Numbers, Has}
 use Rattle.tc_steps.specs.Classes.{IsFor, IsKnown}
 use Rattle.tc_steps.specs.Led.{AreLed}
-use Rattle.tc_steps.specs.Numbered.{AreStates, Grown, Passes, PassesText, PassesElement, IsStep, AreSteps, IsEntry, AreNames}
+use Rattle.tc_steps.specs.Numbered.{AreStates, Grown, Passes, PassesElement, IsStep, AreSteps, IsEntry, AreNames}
 use Rattle.tc_steps.specs.Moving.{IsCopyOf, IsMet, AreRight, Keeps, IsElement, IsAfterText, IsAfterElement}
 use Rattle.tc_steps.specs.declared.classes.Class.{Class}
 use Rattle.tc_steps.specs.declared.known_names.KnownNames.{KnownNames}

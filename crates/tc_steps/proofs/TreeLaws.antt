@@ -1,5 +1,5 @@
 -- Trees that are taken piece by piece.
-use Rattle.std.proofs.Common.{◌≡◌, ◌∙◌, ◌<◌, ◌≤◌, ◌+◌, ℕ, List, [], ◌∷◌, ◌++◌, refl, ap, sym, subst, length, get_or, drop, append_assoc}
+use Rattle.std.proofs.Common.{◌≡◌, ◌∙◌, ◌<◌, ◌≤◌, ◌+◌, ℕ, List, ◌∷◌, ◌++◌, refl, ap, sym, subst, length, get_or, drop, append_assoc}
 use Rattle.std.proofs.lemmas.List.{drop_all}
 use Rattle.tc_model.specs.Events.{Event, characters, start, end, Takes, nothing, event, events}
 use Rattle.tc_model.specs.Names.{ExpandedName}

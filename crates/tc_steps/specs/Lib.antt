@@ -5,3 +5,4 @@ pub mod Numbered
 pub mod Moving
 pub mod Judged
 pub mod Sets
+pub mod Remembered

@@ -1,5 +1,5 @@
 -- What is known while a document is taken, and what elements and texts make of states.
-use Rattle.std.specs.Prelude.{◌≡◌, ◌↔◌, ℕ, List, false}
+use Rattle.std.specs.Prelude.{◌≡◌, ◌↔◌, ℕ}
 use Rattle.tc_model.specs.Grammars.{Grammar}
 use Rattle.tc_model.specs.Names.{ExpandedName}
 use Rattle.tc_model.specs.Symbols.{symbol_of}

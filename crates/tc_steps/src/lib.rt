@@ -8,6 +8,7 @@ mod judge;
 mod known_names;
 mod known_sets;
 mod known_steps;
+mod known_symbols;
 mod levels;
 mod moves;
 mod patterns;

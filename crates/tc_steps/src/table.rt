@@ -1,5 +1,6 @@
 // Steps by symbols.
-ghost use Rattle.std.specs.Prelude.{◌≡◌, ◌<◌, ◌↔◌, ◌+◌, ℕ, List, false, length, IfOk, IsTrue};
+ghost use Rattle.std.proofs.Props.{props};
+ghost use Rattle.std.specs.Prelude.{◌≡◌, ◌<◌, ◌↔◌, ◌+◌, ℕ, List, false, length, IfOk, IfSome, IsTrue};
 ghost use Rattle.tc_auto.specs.Stands as a;
 ghost use Rattle.tc_model.specs.Grammars as g;
 ghost use Rattle.tc_model.specs.Names.{ExpandedName};
@@ -10,9 +11,11 @@ ghost use Rattle.tc_model.specs.Trees as t;
 ghost use Rattle.tc_model.specs.Views as see;
 ghost use Rattle.tc_steps.specs.Classes.{AreSized, IsFor, IsKnown};
 ghost use Rattle.tc_steps.specs.Led.{AreLed, IsStarted};
+ghost use Rattle.tc_steps.specs.Remembered.{AreRemembered};
 
 use crate::arrows::replace;
 use crate::classes::Class;
+use crate::known_symbols::KnownSymbols;
 use crate::patterns::is_started;
 use crate::steps::{pass_element, pass_text};
 use std::alloc::Global;
@@ -22,16 +25,19 @@ use tc_base::NoMemory;
 use tc_model::Name;
 use tc_sets::Set;
 
-/// The steps over children from sets of states of a schema's contents to others, and what is worked out of each symbol.
+/// The steps over children from sets of states of a schema's contents to others, what is worked out of each symbol, and
+/// the symbols of some names.
 #[derive(Drop)]
 pub struct Steps<'h> {
     auto: &'h Auto<'h>,
     alphabet: &'h Alphabet,
     classes: Vec<Class>,
+    symbols: KnownSymbols,
     next: Set,
     ghost sized: { AreSized auto.now classes.items },
     ghost counted: { length classes.items ≡ symbol_count alphabet.now },
     ghost next_sized: { next.size ≡ a.states auto.now },
+    ghost remembered: { AreRemembered alphabet.now symbols } by { Prim.hlevel props },
 }
 
 /// One past the number of the last element pattern. No memory holds sets of more numbers than `u32` has.
@@ -79,13 +85,46 @@ impl<'h> Steps<'h> {
             → IsFor x r.auto.now r.alphabet.now r.classes.items) }
     {
         let classes = all_unknown(alloc, auto, alphabet)?;
+        let symbols = KnownSymbols::new(alloc)?;
         let next = Set::empty(alloc, auto.states())?;
         Ok(Steps {
             auto,
             alphabet,
             classes,
+            symbols,
             next,
         })
+    }
+
+    /// The symbol of a name, if it is remembered and known.
+    fn remembered(&self, name: &Name<'_>) -> Option<Sym>
+        ensures symbol { IfSome result
+            (λ s. s.0 ≡ symbol_of self.now.alphabet.now (see.name name.now)) }
+        ensures below { IfSome result (λ s. s.0 < symbol_count self.now.alphabet.now) }
+        ensures known { IfSome result (λ s. IsKnown self.now.classes.items s.0) }
+    {
+        let symbol = self.symbols.remembered(name)?;
+        let class = self.classes.get(symbol.0 as usize)?;
+        if class.known { Some(symbol) } else { None }
+    }
+
+    /// Looks for the symbol of a name, and works out what it is, unless a name of the symbol was met.
+    fn learn(&mut self, name: &Name<'_>) -> Sym
+        ensures auto { self.new.auto.now ≡ self.old.auto.now }
+        ensures alphabet { self.new.alphabet.now ≡ self.old.alphabet.now }
+        ensures symbol { result.0 ≡ symbol_of self.old.alphabet.now (see.name name.now) }
+        ensures below { result.0 < symbol_count self.old.alphabet.now }
+        ensures known { IsKnown self.new.classes.items result.0 }
+        ensures stays { (k : ℕ) → IsKnown self.old.classes.items k
+            → IsKnown self.new.classes.items k }
+        ensures right { (x : g.Grammar)
+            → IsFor x self.old.auto.now self.old.alphabet.now self.old.classes.items
+            → IsFor x self.new.auto.now self.new.alphabet.now self.new.classes.items }
+    {
+        let symbol = self.alphabet.sym_of(name);
+        self.classes[symbol.0 as usize].meet(self.auto, name);
+        self.symbols.remember(name, symbol);
+        symbol
     }
 
     /// The symbol of a name, which is known from now on.
@@ -101,9 +140,10 @@ impl<'h> Steps<'h> {
             → IsFor x self.old.auto.now self.old.alphabet.now self.old.classes.items
             → IsFor x self.new.auto.now self.new.alphabet.now self.new.classes.items }
     {
-        let symbol = self.alphabet.sym_of(name);
-        self.classes[symbol.0 as usize].meet(self.auto, name);
-        symbol
+        match self.remembered(name) {
+            Some(symbol) => symbol,
+            None => self.learn(name),
+        }
     }
 
     /// The number below which states are.

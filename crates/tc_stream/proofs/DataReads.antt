@@ -15,7 +15,9 @@ use Rattle.tc_model.specs.XmlTextReferences.{is_plain}
 use Rattle.tc_model.proofs.XmlTextChars.{one_char, join_chars, cut_chars}
 use Rattle.tc_stream.specs.From.{Standing, open_in, StillComes}
 use Rattle.tc_stream.specs.Keeps.{IsReady}
-use Rattle.tc_stream.specs.Outcomes.{Outcome}
+use Rattle.tc_stream.specs.Outcomes.{Outcome, Comes}
+use Rattle.tc_stream.specs.TagStands.{TagStands}
+use Rattle.tc_tags.specs.Begins.{BeginsTag}
 use Rattle.tc_stream.specs.Parts.{Pends, MayPend, IsData}
 use Rattle.tc_stream.specs.Reading.{ReadsOn, FaultsOn, TakesText, IsOpen}
 use Rattle.tc_stream.specs.References as scan
@@ -30,7 +32,8 @@ use Rattle.tc_stream.specs.declared.reader.Reader.{Reader}
 use Rattle.tc_stream.specs.declared.references.Reference.TheVariants as references
 use Rattle.tc_stream.proofs.BrokenSteps.{text_broken}
 use Rattle.tc_stream.proofs.ContentSteps.{text_step}
-use Rattle.tc_stream.proofs.ReadingLaws.{pending_with, still_moved, goes_on, grown, begun_before, nothing_reads, front_read, front_faults, steps_alike, white_joined, tells_moved, InContent, content, in_content_of, text_taken}
+use Rattle.tc_stream.proofs.StandsLaws.{Inside, inside_tag, content_end}
+use Rattle.tc_stream.proofs.ReadingLaws.{so_far, pending_with, still_moved, goes_on, grown, begun_before, nothing_reads, front_read, front_faults, steps_alike, white_joined, tells_moved, InContent, content, in_content_of, text_taken}
 use Rattle.tc_stream.proofs.ScanEnds.{white_lines}
 use Rattle.tc_stream.proofs.ScanLaws.{then_scan, cdata_more}
 use Rattle.tc_stream.proofs.TextLaws.{StopsRun}
@@ -221,6 +224,52 @@ pub reference_begun : {old new : Reader} {text rest : List ℕ} (end place : ℕ
 reference_begun {old} {new} {text} {rest} end place is open_at ready part elements phase begun fits =
     item_begun end place 0x26 is (omega arith) refl refl open_at ready elements phase begun fits (ap (λ p. known_text p (0x26 ∷ [])) part)
     (λ n. subst (λ p. Pends n p new (0x26 ∷ [])) (sym part) (scan.begun, [], refl, refl, refl)) (subst (λ p. MayPend phases.Content p) (sym part) refl)
+
+-- a tag in content stands behind the characters so far
+pub open_tag : {x : Grammar} {s : Reader} {chars : List ℕ} (place : ℕ) (item : List ℕ) → place ≡ length chars → IsOpen s → ReadsTo x s chars → BeginsTag item → IsChars item
+    → (a : TagStands x s.elements place item (chars ++ item)) × (a.ls ≢ [])
+open_tag {x} {s} {chars} place item at open_at r b h = (
+  record {
+    before = chars;
+    parts_are = refl;
+    stands = at;
+    before_chars = so_far r;
+    item_chars = h;
+    ls = inside.ls;
+    scope = inside.scope;
+    run = inside.run;
+    keeps = inside.keeps;
+    steps = inside.steps;
+    comes = λ y o. (past y o, back y o);
+  },
+  inside.some refl,
+)
+  where
+    here : s.phase ≡ phases.Content
+    here = open_place open_at r
+
+    t : Settled x s.elements (length r.before) r.pending r.standing
+    t = settled open_at r
+
+    inside : Inside x s.elements phases.Content t.standing
+    inside = inside_tag parts.Markup (λ w. refl) content_end (t.tells parts.Markup [] refl)
+
+    long : length r.before + length r.pending ≡ length chars
+    long = sym (ap length r.parts_are ∙ length-append r.before r.pending)
+
+    stops : (y : List ℕ) → StopsRun (item ++ y)
+    stops y = subst (λ z. StopsRun (z ++ y)) (sym b.opens) refl
+
+    past : (y : List ℕ) (o : Outcome) → Comes ((chars ++ item) ++ y) o → StillComes (length chars) phases.Content (open_in inside.ls inside.scope inside.run) (item ++ y) o
+    past y o g =
+        let there : StillComes (length r.before) s.phase r.standing (r.pending ++ (item ++ y)) o = (r.comes (item ++ y) o).0 (subst (λ z. Comes z o) (append_assoc chars item y) g) in
+        (inside.same (length chars) item y o h b).0
+        (still_moved {p = phases.Content} {q = phases.Content} t.standing o long refl refl ((t.step (item ++ y) o (stops y)).0 (still_moved {p = s.phase} {q = phases.Content} r.standing o refl here refl there)))
+
+    back : (y : List ℕ) (o : Outcome) → StillComes (length chars) phases.Content (open_in inside.ls inside.scope inside.run) (item ++ y) o → Comes ((chars ++ item) ++ y) o
+    back y o g =
+        let there = (t.step (item ++ y) o (stops y)).1 (still_moved {p = phases.Content} {q = phases.Content} t.standing o (sym long) refl refl ((inside.same (length chars) item y o h b).1 g)) in
+        subst (λ z. Comes z o) (sym (append_assoc chars item y)) ((r.comes (item ++ y) o).1 (still_moved {p = phases.Content} {q = s.phase} r.standing o refl (sym here) refl there))
 
 -- in content a text that isn't plain begins with such a byte
 pub plain_or_mark : (text : List ℕ) → 0 < length text → prefix_len is_plain text ≡ 0 → ((r : List ℕ) → text ≡ 0x26 ∷ r → ⊥) → ((r : List ℕ) → text ≡ 0x3C ∷ r → ⊥) → ⊥

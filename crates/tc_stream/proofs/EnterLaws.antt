@@ -68,12 +68,12 @@ whole_stands {tag} {f} {e} s r one long =
     ∙ (ap (take s.length) (written_before a.names) ∙ take_at (written_bytes e.name) a.past_name s.length (written_long e.name ∙ sym long)))
 
 -- its parts as they are kept
-same_name : {tag : List ℕ} {f : WrittenName} {n : QualifiedName} → IsNameAt tag f n → name_in tag f ≡ n
+pub same_name : {tag : List ℕ} {f : WrittenName} {n : QualifiedName} → IsNameAt tag f n → name_in tag f ≡ n
 same_name {tag} {f} {n} h =
     let make : List ℕ → List ℕ → QualifiedName = λ x y. record { prefix = x; local = y } in
     ap (λ x. make x (at_span f.local tag)) h.prefix ∙ ap (make n.prefix) h.local
 
-local_text : {tag : List ℕ} {f : Form} {e : WrittenElement} → FormRead tag f e → IsUtf8 (at_span f.name.local tag)
+pub local_text : {tag : List ℕ} {f : Form} {e : WrittenElement} → FormRead tag f e → IsUtf8 (at_span f.name.local tag)
 local_text {tag} {f} {e} r =
     let parts = qname_parts r.form.names in
     subst IsUtf8 (sym r.name.local) (chars_utf8 e.name.local (name_chars e.name.local parts.1))
@@ -121,7 +121,7 @@ added_bindings : {e : WrittenElement} {names now : List ℕ} {declared new : Lis
 added_bindings {e} {names} {now} {declared} {new} {newer} {c} m =
     ap (λ z. map (binding_in now) (drop c.declared z)) m.adds.behind ∙ (ap (map (binding_in now)) (drop_at declared m.adds.more c.declared (sym m.declared_before)) ∙ m.adds.bindings)
 
-added_names : {e : WrittenElement} {names now : List ℕ} {declared new : List Declared} {newer : List ℕ} {c : code.Level} → Added e names now declared new newer c → length now ≡ names_length e + length names
+pub added_names : {e : WrittenElement} {names now : List ℕ} {declared new : List Declared} {newer : List ℕ} {c : code.Level} → Added e names now declared new newer c → length now ≡ names_length e + length names
 added_names {e} {names} {now} {declared} {new} {newer} {c} m =
     let all : length now ≡ length names + length (rest_of e) = ap length (added_whole m) ∙ length-append names (rest_of e) in
     let rest : length (rest_of e) ≡ length (written_bytes e.name) + length (declared_bytes e.attributes) = length-append (written_bytes e.name) (declared_bytes e.attributes) in
@@ -137,7 +137,7 @@ added_declared {e} {names} {now} {declared} {new} {newer} {c} m =
     omega (arith, all, many)
 
 -- what is in scope then
-holds_in : {e : WrittenElement} {names now : List ℕ} {declared new : List Declared} {newer : List ℕ} {c : code.Level} (outer : List Bound) → Added e names now declared new newer c → Holds names declared outer
+pub holds_in : {e : WrittenElement} {names now : List ℕ} {declared new : List Declared} {newer : List ℕ} {c : code.Level} (outer : List Bound) → Added e names now declared new newer c → Holds names declared outer
     → AllByRecursion (StandsWithin (length names)) declared → Holds now new (scope_within outer e.attributes)
 holds_in {e} {names} {now} {declared} {new} {newer} {c} outer m h w =
     let ws = e.attributes in
@@ -210,7 +210,7 @@ bound_texts : (names : List ℕ) (ds : List Declared) → AllByRecursion (λ (b 
 bound_texts names [] h = tt
 bound_texts names (d ∷ ds) h = (h.0, bound_texts names ds h.1)
 
-texts_kept : (names more : List ℕ) (ds : List Declared) → AllByRecursion (StandsWithin (length names)) ds → AllByRecursion (IsText names) ds → AllByRecursion (IsText (names ++ more)) ds
+pub texts_kept : (names more : List ℕ) (ds : List Declared) → AllByRecursion (StandsWithin (length names)) ds → AllByRecursion (IsText names) ds → AllByRecursion (IsText (names ++ more)) ds
 texts_kept names more [] w h = tt
 texts_kept names more (d ∷ ds) w h = (subst IsUtf8 (sym (span_kept d.uri names more w.0.1)) h.0, texts_kept names more ds w.1 h.1)
 
@@ -246,7 +246,7 @@ all_reverse : {A : Type 0} (P : A → Type 0) (xs : List A) → AllByRecursion P
 all_reverse P [] h = tt
 all_reverse P (x ∷ xs) h = subst (AllByRecursion P) (sym (reverse-append (x ∷ []) xs)) (all_append P (reverse xs) (x ∷ []) (all_reverse P xs h.1) (h.0, tt))
 
-all_texts : (names : List ℕ) (declared : List Declared) → AllByRecursion (IsText names) declared → AreTexts names declared
+pub all_texts : (names : List ℕ) (declared : List Declared) → AllByRecursion (IsText names) declared → AreTexts names declared
 all_texts names declared h p uri e = bound_text names p uri (reverse declared) (all_reverse (IsText names) declared h) e
 
 -- What the tag means

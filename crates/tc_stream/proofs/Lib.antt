@@ -64,6 +64,8 @@ pub mod ReadingLaws
 pub mod ScanEnds
 pub mod ItemReads
 pub mod DataReads
+pub mod WholeTagReads
+pub mod NamedLaws
 pub mod MiscReads
 pub mod PendingLaws
 pub mod MarkupReads

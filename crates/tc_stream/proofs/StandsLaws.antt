@@ -79,14 +79,14 @@ front_more w v e f = λ r. subst (λ z. IsFaultOf z e) (sym (append_assoc w v r)
 
 -- in which elements a tag stands
 
-record Inside (x : Grammar) (e : Elements) (phase : Phase) (standing : Standing) : Type 0 where
-  ls : List Level
-  scope : List Bound
-  run : List ℕ
-  keeps : Keeps e ls scope
-  steps : AreSteps x e.validity ls run
-  some : phase ≡ phases.Content → ls ≢ []
-  same : (n : ℕ) (item r : List ℕ) (o : Outcome) → IsChars item → BeginsTag item → StillComes n phase standing (item ++ r) o ↔ StillComes n phases.Content (open_in ls scope run) (item ++ r) o
+pub record Inside (x : Grammar) (e : Elements) (phase : Phase) (standing : Standing) : Type 0 where
+  pub ls : List Level
+  pub scope : List Bound
+  pub run : List ℕ
+  pub keeps : Keeps e ls scope
+  pub steps : AreSteps x e.validity ls run
+  pub some : phase ≡ phases.Content → ls ≢ []
+  pub same : (n : ℕ) (item r : List ℕ) (o : Outcome) → IsChars item → BeginsTag item → StillComes n phase standing (item ++ r) o ↔ StillComes n phases.Content (open_in ls scope run) (item ++ r) o
 
 root_same : (n : ℕ) (item r : List ℕ) (phase : Phase) (o : Outcome) → IsChars item → BeginsTag item → phase ≢ phases.Content → phase ≢ phases.End
     → StillComes n phase (open_in [] [] []) (item ++ r) o ↔ StillComes n phases.Content (open_in [] first_scope []) (item ++ r) o
@@ -98,7 +98,7 @@ root_same n item r phase o chars b h k =
       (λ g. standing_free n phase (open_in [] first_scope []) (open_in [] [] []) (item ++ r) o h k (moved.1 g)),
     )
 
-inside_tag : {x : Grammar} {pending : List ℕ} {e : Elements} {phase : Phase} {standing : Standing} (part : Part) → ((w : List ℕ) → known_text part w ≡ []) → phase ≢ phases.End
+pub inside_tag : {x : Grammar} {pending : List ℕ} {e : Elements} {phase : Phase} {standing : Standing} (part : Part) → ((w : List ℕ) → known_text part w ≡ []) → phase ≢ phases.End
     → Tells x pending part e phase standing → Inside x e phase standing
 inside_tag {phase = phase} part none h (t.before c k keeps steps) = record {
   ls = [];

@@ -27,3 +27,5 @@ pub mod TagStands
 pub mod Pieces
 pub mod Streams
 pub mod Placed
+pub mod WholeTags
+pub mod Named

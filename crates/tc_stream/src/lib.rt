@@ -24,6 +24,7 @@ mod stopping;
 mod stream;
 mod tag_ends;
 mod tag_reading;
+mod whole_tags;
 mod words;
 
 pub use faults::StreamFault;

@@ -243,12 +243,16 @@ impl Reader<'_> {
                 self.part = Part::Reference(Reference::Begun);
                 Ok(rest)
             }
-            None => self.begin_markup(text, end),
+            None => self.begin_item(text, end),
         }
     }
 
     /// Begins an item with a `<` in content.
-    fn begin_markup<'t>(&mut self, text: &'t str, end: u32) -> Result<&'t str, StreamFault>
+    pub(crate) fn begin_markup<'t>(
+        &mut self,
+        text: &'t str,
+        end: u32,
+    ) -> Result<&'t str, StreamFault>
         requires ready { IsReading self.old }
         requires open_here { IsOpen self.old }
         requires bare { prefix_len is_plain text.now ≡ 0 }

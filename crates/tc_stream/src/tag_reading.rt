@@ -26,7 +26,7 @@ use tc_tags::{Form, NoForm, is_end_tag, is_plain_end_tag, text_of};
 
 /// How far a start tag or an empty-element tag goes in some bytes.
 #[derive(Clone, Copy)]
-enum Scanned {
+pub(crate) enum Scanned {
     /// It goes on behind them, within these quotes or none.
     Within(Option<u8>),
     /// It ends behind so many of them.
@@ -35,7 +35,7 @@ enum Scanned {
 
 /// How far a start tag or an empty-element tag goes in some bytes that has come so far within these quotes or none.
 #[tactic(auto, using(crate::proofs::TagReads::slice_low))]
-fn scan_tag(quote: Option<u8>, bytes: &[u8]) -> Scanned
+pub(crate) fn scan_tag(quote: Option<u8>, bytes: &[u8]) -> Scanned
     ensures { TellsScanned quote bytes.now result }
 {
     let mut within = quote;
@@ -89,7 +89,7 @@ fn tag_fault(elements: &mut Elements<'_>, tag: &str, begun: u32) -> StreamFault
 }
 
 /// The fault of a tag whose element isn't gone into, which stands at a place.
-fn no_element_fault(reason: NoElement, begun: u32) -> StreamFault
+pub(crate) fn no_element_fault(reason: NoElement, begun: u32) -> StreamFault
     ensures { TellsNoElement result reason begun }
 {
     match reason {
@@ -121,7 +121,7 @@ fn enter(elements: &mut Elements<'_>, tag: &str, form: &Form, begun: u32) -> Res
 
 /// Goes into the element whose tag this is, and out of it again where it is empty. Such a tag isn't kept where elements
 /// stand too deep.
-fn start(elements: &mut Elements<'_>, tag: &str, begun: u32) -> Result<(), StreamFault>
+pub(crate) fn start(elements: &mut Elements<'_>, tag: &str, begun: u32) -> Result<(), StreamFault>
     requires ready { IsReady elements.old }
     requires low { begun ≤ 67108864 }
     requires short { length tag.now ≤ 65536 }
@@ -172,7 +172,7 @@ impl Reader<'_> {
     }
 
     /// Nothing has begun behind a tag that has ended.
-    fn leave_tag(&mut self)
+    pub(crate) fn leave_tag(&mut self)
         ensures elements { self.new.elements ≡ self.old.elements }
         ensures part { self.new.part ≡ Part.Between }
         ensures inside { (self.old.elements.levels.items ≡ [] → ⊥) → self.new.phase

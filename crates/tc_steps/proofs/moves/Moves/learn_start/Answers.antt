@@ -1,4 +1,4 @@
-use Rattle.std.proofs.Common.{◌≡◌, ◌∙◌, ap, refl, sym}
+use Rattle.std.proofs.Common.{◌∙◌, ap, refl, sym}
 use Rattle.tc_model.specs.Symbols.{symbol_of}
 use Rattle.tc_model.specs.Trees.{none}
 use Rattle.tc_model.specs.Views as see

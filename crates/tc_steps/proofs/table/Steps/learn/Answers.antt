@@ -3,7 +3,7 @@ use Rattle.std.proofs.lemmas.List.{length-set}
 use Rattle.std.proofs.lemmas.Option.{slice_get_read}
 use Rattle.tc_model.specs.Views as see
 use Rattle.tc_steps.proofs.ClassLaws.{set_known, set_sized, stays_known, met_classes}
-use Rattle.tc_steps.proofs.table.Steps.symbol.Goals as goal
+use Rattle.tc_steps.proofs.table.Steps.learn.Goals as goal
 
 pub meet-requires : goal.meet-requires
 meet-requires c =
@@ -50,4 +50,5 @@ invariant_of-self c =
       sized = set_sized c.args.self.now.classes.items c.sym_of-symbol.result.0 c.meet.new.self low c.meet.ensures.learns.known _ c.args.self.now.sized c.meet.ensures.sized;
       counted = length-set _ _ _ ∙ c.args.self.now.counted;
       next_sized = c.args.self.now.next_sized;
+      remembered = c.remember.ensures c.args.self.now.alphabet.now c.args.self.now.remembered c.sym_of-symbol.ensures.symbol;
     }
