@@ -1,5 +1,5 @@
 -- What all predicates ask for is found in their order, and tells which of them hold.
-use Rattle.std.proofs.Common.{◌≡◌, ℕ, ◌+◌, ◌<◌, List, [], ◌∷◌, ◌++◌, refl, ap, ◌∙◌, sym, subst, length, get_or, Bool, true, false, nat_eq, is_some, Option, Some, slice_get, Bor, arith}
+use Rattle.std.proofs.Common.{◌≡◌, ℕ, ◌+◌, ◌<◌, List, [], ◌∷◌, ◌++◌, refl, ap, ◌∙◌, sym, subst, length, get_or, Bool, true, false, nat_eq, is_some, Some, slice_get, arith}
 use Rattle.std.proofs.lemmas.List.{length_push, get_or_push, get_or_append_left}
 use Rattle.std.proofs.lemmas.Option.{same_Some, slice_get-get_or}
 use Rattle.std.proofs.lemmas.Bool.{eqb-true}
@@ -14,7 +14,6 @@ use Rattle.tc_run.specs.Running.{looking, told_by, predicates_by}
 use Rattle.tc_run.specs.declared.predicates.Asked.{Asked}
 use Rattle.tc_run.specs.declared.predicates.Asked.TheVariants as asked
 use Rattle.tc_run.specs.declared.runner.Runner.{Runner}
-use Rattle.tc_run.proofs.FirstHits.{Answered, answered_some}
 
 module _ (r : Runner) where
   pub none_asked : AreAsked r 0 []
@@ -51,11 +50,10 @@ module _ (r : Runner) where
   pub look_asked : (x : Asked) (k : ℕ) (t : Test) → x ≡ asked.Look k → IsAskedBy r t x → IsSomeLook (told_by r) k
   look_asked x k t e is = some_look t k (subst (IsAskedBy r t) e is)
 
-  found_by : (t : Test) (k : ℕ) (h : Trees) (found : Option (Bor (List ℕ))) → IsAskedBy r t (asked.Look k)
-      → ((s : Looking) → IsLookAt (told_by r) k s → Answered found (first_hit (looking r) h s)) → is_some found ≡ holds_in (looking r) t h
-  found_by t k h found (p, e, at) ens =
-      answered_some found (first_hit (looking r) h (looking_from p)) (ens (looking_from p) at) ∙ sym (ap (λ w. holds_in (looking r) w h) e)
+  found_by : (t : Test) (k : ℕ) (h : Trees) (found : Bool) → IsAskedBy r t (asked.Look k)
+      → ((s : Looking) → IsLookAt (told_by r) k s → found ≡ is_some (first_hit (looking r) h s)) → found ≡ holds_in (looking r) t h
+  found_by t k h found (p, e, at) ens = ens (looking_from p) at ∙ sym (ap (λ w. holds_in (looking r) w h) e)
 
-  pub look_found : (x : Asked) (k : ℕ) (t : Test) (h : Trees) (found : Option (Bor (List ℕ))) → x ≡ asked.Look k → IsAskedBy r t x
-      → ((s : Looking) → IsLookAt (told_by r) k s → Answered found (first_hit (looking r) h s)) → is_some found ≡ holds_in (looking r) t h
+  pub look_found : (x : Asked) (k : ℕ) (t : Test) (h : Trees) (found : Bool) → x ≡ asked.Look k → IsAskedBy r t x
+      → ((s : Looking) → IsLookAt (told_by r) k s → found ≡ is_some (first_hit (looking r) h s)) → found ≡ holds_in (looking r) t h
   look_found x k t h found e is ens = found_by t k h found (subst (IsAskedBy r t) e is) ens

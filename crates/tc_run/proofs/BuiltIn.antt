@@ -1,7 +1,6 @@
 -- What the built-in rules and single instructions do on a node.
 use Rattle.std.proofs.Common.{◌≡◌, ℕ, ◌≤◌, List, [], refl, ap, ◌∙◌, sym, subst, Option, Some, None, Bor, arith}
-use Rattle.std.specs.Option.{unwrap_or}
-use Rattle.tc_model.specs.Chains.{an_element, Node, whole, one, children}
+use Rattle.tc_model.specs.Chains.{an_element, Node, whole, one, children, joined_texts, string_value}
 use Rattle.tc_model.specs.Machine.{in_mode, does_in, outputs, first_hit}
 use Rattle.tc_model.specs.Meaning.{all_children, value_of_first}
 use Rattle.tc_model.specs.Outcomes.{Outcome, within, put, put_around, copied}
@@ -17,6 +16,7 @@ use Rattle.tc_model.specs.declared.sheet.Instr.TheVariants as v
 use Rattle.tc_model.specs.declared.sheet.Instr.TheViews.{roll-Instr, out-Instr, roll-out-Instr}
 use Rattle.tc_model.proofs.TotalJoin.{join_none}
 use Rattle.tc_rules.specs.RulesView.{ancestor}
+use Rattle.tc_run.specs.Hits.{value_of}
 use Rattle.tc_run.specs.Lettered.{bare}
 use Rattle.tc_run.specs.Running.{told_by, symbols_by, predicates_by, sheet_by, machine, looking}
 use Rattle.tc_run.specs.Views.{trees, node, node_of}
@@ -25,6 +25,7 @@ use Rattle.tc_run.specs.Tasks.{built_in, does, outputs_on}
 use Rattle.tc_run.specs.declared.bodies.Context.{Context}
 use Rattle.tc_run.specs.declared.bodies.Shape.{Shape}
 use Rattle.tc_run.specs.declared.bodies.Shape.TheVariants as shapes
+use Rattle.tc_run.specs.declared.looks.Hit.{Hit}
 use Rattle.tc_run.specs.declared.runner.Runner.{Runner}
 use Rattle.tc_run.proofs.Instructions.{text_seen, self_seen, elem_seen, copy_seen, apply_seen, call_seen, value_of_seen, choose_seen, for_each_seen}
 use Rattle.tc_run.proofs.FirstHits.{Answered, answered_none, answered_value}
@@ -37,14 +38,23 @@ module _ (r : Runner) (bodies : List CallFreeBody) (mode : ℕ) where
   abbrev of_children : ℕ → Node → Outcome
   of_children above n = outputs_on r bodies (children n) above (going_from (in_mode mode) all_children)
 
-  children_by : (s : Shape) (string : List ℕ) (kids : Trees) (above : ℕ) → (s ≡ shapes.Text → ⊥) → by_built_in above (node_of s string kids) ≡ within (of_children above (node_of s string kids))
-  children_by shapes.Root string kids above other = join_none (within (of_children above (whole kids)))
-  children_by (shapes.Elem n) string kids above other = join_none (within (of_children above (one (an_element (name n) kids))))
-  children_by shapes.Text string kids above other = absurd (other refl)
+  children_by : (s : Shape) (kids : Trees) (above : ℕ) → ((x : Bor (List ℕ)) → s ≡ shapes.Text x → ⊥) → by_built_in above (node_of s kids) ≡ within (of_children above (node_of s kids))
+  children_by shapes.Root kids above other = join_none (within (of_children above (whole kids)))
+  children_by (shapes.Elem n) kids above other = join_none (within (of_children above (one (an_element (name n) kids))))
+  children_by (shapes.Text x) kids above other = absurd (other x refl)
 
-  pub built_in_children : (h : Context) → (h.shape ≡ shapes.Text → ⊥)
+  pub built_in_children : (h : Context) → ((x : Bor (List ℕ)) → h.shape ≡ shapes.Text x → ⊥)
       → does r bodies (built_in mode (node h)) h ≡ within (outputs_on r bodies (children (node h)) h.above (going_from (in_mode mode) all_children))
-  built_in_children h other = children_by h.shape h.string.now (bare (trees h.kids.now)) h.above other
+  built_in_children h other = children_by h.shape (bare (trees h.kids.now)) h.above other
+
+-- the string-value of a node that is no text
+joined_by : (s : Shape) (kids : Trees) → ((x : Bor (List ℕ)) → s ≡ shapes.Text x → ⊥) → joined_texts kids ≡ string_value (node_of s kids)
+joined_by shapes.Root kids other = refl
+joined_by (shapes.Elem n) kids other = refl
+joined_by (shapes.Text x) kids other = absurd (other x refl)
+
+pub joined_self : (h : Context) → ((x : Bor (List ℕ)) → h.shape ≡ shapes.Text x → ⊥) → joined_texts (bare (trees h.kids.now)) ≡ string_value (node h)
+joined_self h other = joined_by h.shape (bare (trees h.kids.now)) other
 
 -- some instruction
 abbrev HasOne : Body → Type 0
@@ -102,12 +112,12 @@ module _ (r : Runner) (bodies : List CallFreeBody) (h : Context) (named : List B
 
 -- a copy, by what the node is
 pub copy_root : (h : Context) (a : Outcome) → h.shape ≡ shapes.Root → copied (node h) a ≡ a
-copy_root h a e = ap (λ s. copied (node_of s h.string.now (bare (trees h.kids.now))) a) e
+copy_root h a e = ap (λ s. copied (node_of s (bare (trees h.kids.now))) a) e
 
 pub copy_elem : (h : Context) (n : Name) (a : Outcome) → h.shape ≡ shapes.Elem n → copied (node h) a ≡ put_around (name n) a
-copy_elem h n a e = ap (λ s. copied (node_of s h.string.now (bare (trees h.kids.now))) a) e
+copy_elem h n a e = ap (λ s. copied (node_of s (bare (trees h.kids.now))) a) e
 
 -- the value of what was found, or else none
-pub value_found : (found : Option (Bor (List ℕ))) (hit : Option Node) (x empty : Bor (List ℕ)) → Answered found hit → x ≡ unwrap_or found empty → empty.now ≡ [] → x.now ≡ value_of_first hit
-value_found None hit x n a e z = ap (λ (w : Bor (List ℕ)). w.now) e ∙ (z ∙ sym (answered_none hit a))
-value_found (Some y) hit x n a e z = ap (λ (w : Bor (List ℕ)). w.now) e ∙ answered_value y hit a
+pub value_found : (found : Option Hit) (hit : Option Node) → Answered found hit → value_of found ≡ value_of_first hit
+value_found None hit a = sym (answered_none hit a)
+value_found (Some y) hit a = answered_value y hit a

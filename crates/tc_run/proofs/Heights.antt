@@ -17,9 +17,9 @@ abbrev IsNoLower : l.Lettered → Lettered → Type 0
 IsNoLower rest x = height_of rest ≤ height_of (before x rest)
 
 layer_no_lower : (f : Lettered-F Lettered) (rest : l.Lettered) → IsNoLower rest (roll-Lettered f)
-layer_no_lower (parts.Elem n x s kids) rest =
+layer_no_lower (parts.Elem n x kids) rest =
     let P : Lettered → Type 0 = λ y. IsNoLower rest y in
-    subst P (sym (rolls-Elem n x s kids)) (subst (λ (y : l.Lettered). height_of rest ≤ height_of y) (sym (before_elem n x s kids rest)) (omega arith))
+    subst P (sym (rolls-Elem n x kids)) (subst (λ (y : l.Lettered). height_of rest ≤ height_of y) (sym (before_elem n x kids rest)) (omega arith))
 layer_no_lower (parts.Text s m) rest =
     let P : Lettered → Type 0 = λ y. IsNoLower rest y in
     subst P (sym (rolls-Text s m)) (subst (λ (y : l.Lettered). height_of rest ≤ height_of y) (sym (before_text s m rest)) (omega arith))

@@ -1,5 +1,5 @@
 -- The letters that are kept are those of the trees.
-use Rattle.std.proofs.Common.{◌≡◌, ℕ, suc, ◌+◌, ◌-◌, ◌*◌, ◌^◌, ◌<◌, ◌≤◌, List, [], ◌∷◌, refl, ap, ◌∙◌, sym, subst, map, drop, length, Bool, true, false, Bor, Some, slice_get, if◌then◌else◌, arith}
+use Rattle.std.proofs.Common.{◌≡◌, ℕ, suc, ◌+◌, ◌-◌, ◌*◌, ◌^◌, ◌<◌, ◌≤◌, List, [], ◌∷◌, refl, ap, ◌∙◌, sym, subst, map, drop, length, Bool, true, false, Bor, Some, IfSome, slice_get, if◌then◌else◌, arith}
 use Rattle.std.proofs.lemmas.List.{length-drop, length-map}
 use Rattle.std.proofs.Math.Pow.{pow_mono}
 use mir.Val.{bool_byte}
@@ -14,7 +14,7 @@ use Rattle.tc_model.specs.declared.tree.Name.{Name}
 use Rattle.tc_rules.specs.declared.rules.Marks.{Marks}
 use Rattle.tc_rules.proofs.RowSteps.{drop_at}
 use Rattle.tc_run.specs.Lettered as l
-use Rattle.tc_run.specs.Running.{IsRunner, symbols_by, predicates_by, sheet_by, lettered_by, looking}
+use Rattle.tc_run.specs.Running.{IsRunner, symbols_by, predicates_by, sheet_by, IsLetteredIn, looking}
 use Rattle.tc_run.specs.Views.{before, trees}
 use Rattle.tc_run.specs.declared.letters.Letter.{Letter}
 use Rattle.tc_run.specs.declared.letters.Lettered.{Lettered, Elem, Text}
@@ -33,16 +33,16 @@ module _ (r : Runner) (is : IsRunner r) where
   pub marks_are : (u : Tree) → marks_on r (children_of u) ≡ (letter_of (symbols_by r) (predicates_by r) u).marks
   marks_are u = ap marks_of (sym (marks_by_looks (symbols_by r) (sheet_by r) is.tells.well_formed is.tells.symbols_are u))
 
-  pub text_lettered : (s : Bor (List ℕ)) (m : Marks) (rest : t.Trees) → m.0 ≡ marks_on r t.none → before (Text s m) (lettered_by r rest) ≡ lettered_by r (t.text s.now rest)
-  text_lettered s m rest e = before_text s m (lettered_by r rest) ∙ ap (λ n. l.text s.now n (lettered_by r rest)) (e ∙ marks_are (a_text s.now))
+  pub text_lettered : (numbered : List t.Trees) (s : Bor (List ℕ)) (m : Marks) → m.0 ≡ marks_on r t.none → IsLetteredIn r numbered (before (Text s m) l.none)
+  text_lettered numbered s m e = subst (IsLetteredIn r numbered) (sym (before_text s m l.none)) (e ∙ marks_are (a_text s.now), tt)
 
-  pub element_lettered : (n : Name) (x : Letter) (s : Bor (List ℕ)) (kids : Bor (List Lettered)) (rest : t.Trees)
-      → x.sym.0 ≡ symbol_of (symbols_by r) (name n) → x.marks.0 ≡ marks_on r (l.bare (trees kids.now)) → s.now ≡ joined_texts (l.bare (trees kids.now))
-      → trees kids.now ≡ lettered_by r (l.bare (trees kids.now)) → before (Elem n x s kids) (lettered_by r rest) ≡ lettered_by r (t.element (name n) (l.bare (trees kids.now)) rest)
-  element_lettered n x s kids rest e f g k =
+  pub element_lettered : (numbered : List t.Trees) (n : Name) (x : Letter) (kids : Bor (List Lettered))
+      → x.sym.0 ≡ symbol_of (symbols_by r) (name n) → x.marks.0 ≡ marks_on r (l.bare (trees kids.now))
+      → IfSome x.number (λ k. slice_get numbered k ≡ Some (l.bare (trees kids.now))) → IsLetteredIn r numbered (trees kids.now) → IsLetteredIn r numbered (before (Elem n x kids) l.none)
+  element_lettered numbered n x kids e f o k =
       let h = l.bare (trees kids.now) in
-      let m = f ∙ marks_are (an_element (name n) h) in
-      before_elem n x s kids (lettered_by r rest) ∙ (λ i. l.element (name n) (e i) (m i) (g i) (k i) (lettered_by r rest))
+      subst (IsLetteredIn r numbered) (sym (before_elem n x kids l.none))
+      (record { symbol = e; marks_are = f ∙ marks_are (an_element (name n) h); number_is = o }, (k, tt))
 
 abbrev bit_of : Bool → ℕ
 bit_of b = if b then 1 else 0

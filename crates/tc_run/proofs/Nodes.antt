@@ -16,7 +16,8 @@ use Rattle.tc_rules.specs.RulesView.{ancestor}
 use Rattle.tc_run.specs.Lettered as l
 use Rattle.tc_run.specs.Lettered.{bare}
 use Rattle.tc_run.specs.Running.{IsLetteredBy, told_by, sheet_by, symbols_by, predicates_by, machine}
-use Rattle.tc_run.specs.Views.{before, trees, node, IsContext}
+use Rattle.tc_run.specs.Ready.{IsContext}
+use Rattle.tc_run.specs.Views.{before, trees, node}
 use Rattle.tc_rules.specs.Tasks.{going_from}
 use Rattle.tc_run.specs.Tasks.{does, outputs_on}
 use Rattle.tc_run.specs.declared.bodies.Context.{Context}
@@ -30,23 +31,22 @@ use Rattle.tc_run.proofs.OneTree.{ElementAt, element_at}
 use Rattle.tc_run.proofs.Views.{before_elem}
 use Rattle.tc_model.proofs.TotalJoin.{join_none}
 
-abbrev pub here_elem : Name → Bor (List ℕ) → Bor (List Lettered) → ℕ → Context
-here_elem n s kids above = record { shape = shapes.Elem n; string = s; kids = kids; above = above }
+abbrev pub here_elem : Name → Bor (List Lettered) → ℕ → Context
+here_elem n kids above = record { shape = shapes.Elem n; kids = kids; above = above }
 
 abbrev pub here_text : Bor (List ℕ) → Bor (List Lettered) → ℕ → Context
-here_text s kids above = record { shape = shapes.Text; string = s; kids = kids; above = above }
+here_text s kids above = record { shape = shapes.Text s; kids = kids; above = above }
 
-abbrev pub here_root : Bor (List ℕ) → Bor (List Lettered) → ℕ → Context
-here_root s kids above = record { shape = shapes.Root; string = s; kids = kids; above = above }
+abbrev pub here_root : Bor (List Lettered) → ℕ → Context
+here_root kids above = record { shape = shapes.Root; kids = kids; above = above }
 
 module _ (r : Runner) where
-  pub is_here_elem : (n : Name) (x : LetterOf) (s : Bor (List ℕ)) (kids : Bor (List Lettered)) (rest : l.Lettered) (above : ℕ)
-      → ElementAt r n x s kids rest → above < length (told_by r).ancestors.states → IsContext r (here_elem n s kids above)
-  is_here_elem n x s kids rest above a h = record { kids = a.kids_are; children_are = refl; string = a.string_is; above = h }
+  pub is_here_elem : (n : Name) (x : LetterOf) (kids : Bor (List Lettered)) (rest : l.Lettered) (above : ℕ)
+      → ElementAt r n x kids rest → above < length (told_by r).ancestors.states → IsContext r (here_elem n kids above)
+  is_here_elem n x kids rest above a h = record { kids = a.kids_are; children_are = refl; above = h }
 
-  pub is_here_root : (s : Bor (List ℕ)) (kids : Bor (List Lettered)) (above : ℕ) → IsLetteredBy r (trees kids.now) → s.now ≡ c.joined_texts (bare (trees kids.now))
-      → above < length (told_by r).ancestors.states → IsContext r (here_root s kids above)
-  is_here_root s kids above k e h = record { kids = k; children_are = refl; string = e; above = h }
+  pub is_here_root : (kids : Bor (List Lettered)) (above : ℕ) → IsLetteredBy r (trees kids.now) → above < length (told_by r).ancestors.states → IsContext r (here_root kids above)
+  is_here_root kids above k h = record { kids = k; children_are = refl; above = h }
 
   -- the ancestor state at an element
   pub down_low : (k : ℕ) (u : State) → slice_get (told_by r).ancestors.states k ≡ Some u → k < length (told_by r).ancestors.states
@@ -62,25 +62,25 @@ module _ (r : Runner) where
         outputs_none (symbols_by r) (predicates_by r) (sheet_by r).rules bodies h k (ancestor (told_by r) above) (going_from k p) (ap (λ q. is_empty_state (first_state q)) e)
 
     -- of the root
-    pub does_on_root : (p : CallFreeBody) (s : Bor (List ℕ)) (kids : Bor (List Lettered)) → ancestor (told_by r) 0 ≡ first_state (path_of_rules (sheet_by r).rules)
-        → does r bodies p (here_root s kids 0) ≡ does_at (machine r bodies) p (c.top (bare (trees kids.now)))
-    does_on_root p s kids e =
+    pub does_on_root : (p : CallFreeBody) (kids : Bor (List Lettered)) → ancestor (told_by r) 0 ≡ first_state (path_of_rules (sheet_by r).rules)
+        → does r bodies p (here_root kids 0) ≡ does_at (machine r bodies) p (c.top (bare (trees kids.now)))
+    does_on_root p kids e =
         let m = machine r bodies in
         let doc = bare (trees kids.now) in ap (λ (q : State). does_in m p (c.whole doc) (λ i u. outputs m doc i q u)) e
 
     -- one element and what stands below it
-    pub outs_of_element : (above : ℕ) (g : Going) (h : Context) (x : Lettered) (n : Name) (y : LetterOf) (s : Bor (List ℕ)) (kids : Bor (List Lettered))
-        → IsLetteredBy r (before x l.none) → x ≡ Elem n y s kids → node h ≡ c.one (c.an_element (name n) (bare (trees kids.now)))
+    pub outs_of_element : (above : ℕ) (g : Going) (h : Context) (x : Lettered) (n : Name) (y : LetterOf) (kids : Bor (List Lettered))
+        → IsLetteredBy r (before x l.none) → x ≡ Elem n y kids → node h ≡ c.one (c.an_element (name n) (bare (trees kids.now)))
         → ancestor (told_by r) h.above ≡ (machine r bodies).down_to (ancestor (told_by r) above) (letter (kinds.Elem y.sym) y.marks)
         → outputs_on r bodies (bare (before x l.none)) above g
         ≡ join
         (cond ((machine r bodies).move_hits g (letter (kinds.Elem y.sym) y.marks)) (counted (does r bodies ((machine r bodies).body_at g.task (ancestor (told_by r) above) (letter (kinds.Elem y.sym) y.marks)) h)) nothing)
         (outputs_on r bodies (bare (trees kids.now)) h.above ((machine r bodies).move_step g (letter (kinds.Elem y.sym) y.marks)))
-    outs_of_element above g h x n y s kids lettered is at down =
-        let a = element_at r x n y s kids l.none lettered is in
+    outs_of_element above g h x n y kids lettered is at down =
+        let a = element_at r x n y kids l.none lettered is in
         let k = letter (kinds.Elem y.sym) y.marks in
         let first : Outcome = cond ((machine r bodies).move_hits g k) (counted (does r bodies ((machine r bodies).body_at g.task (ancestor (told_by r) above) k) h)) nothing in
         let below : Outcome = outputs_on r bodies (bare (trees kids.now)) h.above ((machine r bodies).move_step g k) in
         ap (λ z. outputs_on r bodies (bare (before z l.none)) above g) is
-        ∙ (ap (λ z. outputs_on r bodies (bare z) above g) (before_elem n y s kids l.none)
+        ∙ (ap (λ z. outputs_on r bodies (bare z) above g) (before_elem n y kids l.none)
         ∙ (element_first r bodies above g h (name n) (bare (trees kids.now)) t.none k at a.letter_is down ∙ ap (join first) (join_none below)))

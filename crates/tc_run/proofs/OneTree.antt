@@ -1,6 +1,6 @@
 -- Lettered trees one tree at a time: a tree, and what stands beside it.
 use Rattle.std.proofs.Common.{◌≡◌, ℕ, suc, ◌+◌, ◌<◌, ◌≤◌, max, List, refl, ap, ◌∙◌, sym, subst, drop, length, get_or, Bor, arith}
-use Rattle.tc_model.specs.Chains.{an_element, a_text, joined_texts}
+use Rattle.tc_model.specs.Chains.{an_element, a_text}
 use Rattle.tc_model.specs.Letters.{Letter, letter_of, of_symbol, of_text}
 use Rattle.tc_model.specs.Machine.{or_else, first_hit}
 use Rattle.tc_model.specs.Outcomes.{join}
@@ -16,6 +16,7 @@ use Rattle.tc_rules.specs.States.{Going, Looking}
 use Rattle.tc_rules.specs.RulesView.{ancestor}
 use Rattle.tc_run.specs.Lettered as l
 use Rattle.tc_run.specs.Lettered.{bare}
+use Rattle.tc_run.specs.Findings.{IsNumberOf}
 use Rattle.tc_run.specs.Running.{IsLetteredBy, told_by, symbols_by, predicates_by, machine, looking}
 use Rattle.tc_run.specs.Views.{before, trees}
 use Rattle.tc_run.specs.Tasks.{outputs_on}
@@ -26,7 +27,6 @@ use Rattle.tc_run.specs.declared.letters.Lettered.TheVariants.{rolls-Elem, rolls
 use Rattle.tc_run.specs.declared.letters.Lettered.TheViews.{roll-Lettered, out-Lettered, roll-out-Lettered}
 use Rattle.tc_run.specs.declared.runner.Runner.{Runner}
 use Rattle.tc_run.proofs.Heights.{height_of}
-use Rattle.tc_run.proofs.LetteredSteps.{text_parts, element_parts}
 use Rattle.tc_run.proofs.Views.{before_elem, before_text, left_one}
 
 -- without letters too, a tree stands before those beside it
@@ -34,9 +34,9 @@ abbrev IsBeside : l.Lettered → Lettered → Type 0
 IsBeside rest y = bare (before y rest) ≡ beside (bare (before y l.none)) (bare rest)
 
 beside_layer : (rest : l.Lettered) (f : Lettered-F Lettered) → IsBeside rest (roll-Lettered f)
-beside_layer rest (parts.Elem n x w kids) =
-    subst (λ y. IsBeside rest y) (sym (rolls-Elem n x w kids))
-    (ap bare (before_elem n x w kids rest) ∙ sym (ap (λ z. beside (bare z) (bare rest)) (before_elem n x w kids l.none)))
+beside_layer rest (parts.Elem n x kids) =
+    subst (λ y. IsBeside rest y) (sym (rolls-Elem n x kids))
+    (ap bare (before_elem n x kids rest) ∙ sym (ap (λ z. beside (bare z) (bare rest)) (before_elem n x kids l.none)))
 beside_layer rest (parts.Text w k) =
     subst (λ y. IsBeside rest y) (sym (rolls-Text w k))
     (ap bare (before_text w k rest) ∙ sym (ap (λ z. beside (bare z) (bare rest)) (before_text w k l.none)))
@@ -51,49 +51,45 @@ module _ (r : Runner) where
     pub alone : IsLetteredBy r (l.text s.now m.0 l.none)
     pub rest_is : IsLetteredBy r rest
 
-  pub record ElementAt (n : Name) (x : LetterOf) (s : Bor (List ℕ)) (kids : Bor (List Lettered)) (rest : l.Lettered) : Type 0 where
+  pub record ElementAt (n : Name) (x : LetterOf) (kids : Bor (List Lettered)) (rest : l.Lettered) : Type 0 where
     pub letter_is : letter (kinds.Elem x.sym) x.marks ≡ letter_of (symbols_by r) (predicates_by r) (an_element (name n) (bare (trees kids.now)))
-    pub string_is : s.now ≡ joined_texts (bare (trees kids.now))
     pub kids_are : IsLetteredBy r (trees kids.now)
-    pub alone : IsLetteredBy r (l.element (name n) x.sym.0 x.marks.0 s.now (trees kids.now) l.none)
+    pub number_is : IsNumberOf r x.number (bare (trees kids.now))
+    pub alone : IsLetteredBy r (l.element (name n) x.sym.0 x.marks.0 x.number (trees kids.now) l.none)
     pub rest_is : IsLetteredBy r rest
 
   text_kept : (s : Bor (List ℕ)) (m : Marks) (rest : l.Lettered) → IsLetteredBy r (l.text s.now m.0 rest) → TextAt s m rest
-  text_kept s m rest h =
-      let p = text_parts (symbols_by r) (predicates_by r) s.now m.0 rest h in
-      record {
-        letter_is = ap (λ k. let y : Letter = record { kind = of_text; marks = k } in y) p.marks;
-        alone = ap (λ k. l.text s.now k l.none) p.marks;
-        rest_is = p.rest_is;
-      }
+  text_kept s m rest h = record {
+    letter_is = ap (λ k. let y : Letter = record { kind = of_text; marks = k } in y) h.0;
+    alone = (h.0, tt);
+    rest_is = h.1;
+  }
 
-  element_kept : (n : Name) (x : LetterOf) (s : Bor (List ℕ)) (kids : Bor (List Lettered)) (rest : l.Lettered)
-      → IsLetteredBy r (l.element (name n) x.sym.0 x.marks.0 s.now (trees kids.now) rest) → ElementAt n x s kids rest
-  element_kept n x s kids rest h =
-      let p = element_parts (symbols_by r) (predicates_by r) (name n) x.sym.0 x.marks.0 s.now (trees kids.now) rest h in
-      record {
-        letter_is = λ i. let y : Letter = record { kind = of_symbol (p.symbol i); marks = p.marks i } in y;
-        string_is = p.string_is;
-        kids_are = p.kids_are;
-        alone = λ i. l.element (name n) (p.symbol i) (p.marks i) (p.string_is i) (p.kids_are i) l.none;
-        rest_is = p.rest_is;
-      }
+  element_kept : (n : Name) (x : LetterOf) (kids : Bor (List Lettered)) (rest : l.Lettered)
+      → IsLetteredBy r (l.element (name n) x.sym.0 x.marks.0 x.number (trees kids.now) rest) → ElementAt n x kids rest
+  element_kept n x kids rest h = record {
+    letter_is = λ i. let y : Letter = record { kind = of_symbol (h.0.symbol i); marks = h.0.marks_are i } in y;
+    kids_are = h.1.0;
+    number_is = h.0.number_is;
+    alone = (h.0, (h.1.0, tt));
+    rest_is = h.1.1;
+  }
 
   pub text_at : (node : Lettered) (s : Bor (List ℕ)) (m : Marks) (rest : l.Lettered) → IsLetteredBy r (before node rest) → node ≡ Text s m → TextAt s m rest
   text_at node s m rest h is = text_kept s m rest (subst (IsLetteredBy r) (ap (λ y. before y rest) is ∙ before_text s m rest) h)
 
-  pub element_at : (node : Lettered) (n : Name) (x : LetterOf) (s : Bor (List ℕ)) (kids : Bor (List Lettered)) (rest : l.Lettered)
-      → IsLetteredBy r (before node rest) → node ≡ Elem n x s kids → ElementAt n x s kids rest
-  element_at node n x s kids rest h is = element_kept n x s kids rest (subst (IsLetteredBy r) (ap (λ y. before y rest) is ∙ before_elem n x s kids rest) h)
+  pub element_at : (node : Lettered) (n : Name) (x : LetterOf) (kids : Bor (List Lettered)) (rest : l.Lettered)
+      → IsLetteredBy r (before node rest) → node ≡ Elem n x kids → ElementAt n x kids rest
+  element_at node n x kids rest h is = element_kept n x kids rest (subst (IsLetteredBy r) (ap (λ y. before y rest) is ∙ before_elem n x kids rest) h)
 
   -- a tree is lettered alone, and so is what stands beside it
   abbrev AreApart : Lettered → l.Lettered → Type 0
   AreApart y rest = IsLetteredBy r (before y rest) → IsLetteredBy r (before y l.none) × IsLetteredBy r rest
 
   apart_layer : (f : Lettered-F Lettered) (rest : l.Lettered) → AreApart (roll-Lettered f) rest
-  apart_layer (parts.Elem n x s kids) rest =
-      subst (λ y. AreApart y rest) (sym (rolls-Elem n x s kids))
-      (λ h. let p = element_at (Elem n x s kids) n x s kids rest h refl in (subst (IsLetteredBy r) (sym (before_elem n x s kids l.none)) p.alone, p.rest_is))
+  apart_layer (parts.Elem n x kids) rest =
+      subst (λ y. AreApart y rest) (sym (rolls-Elem n x kids))
+      (λ h. let p = element_at (Elem n x kids) n x kids rest h refl in (subst (IsLetteredBy r) (sym (before_elem n x kids l.none)) p.alone, p.rest_is))
   apart_layer (parts.Text s m) rest =
       subst (λ y. AreApart y rest) (sym (rolls-Text s m))
       (λ h. let p = text_at (Text s m) s m rest h refl in (subst (IsLetteredBy r) (sym (before_text s m l.none)) p.alone, p.rest_is))
@@ -122,10 +118,10 @@ abbrev IsNoHigher : l.Lettered → Lettered → Type 0
 IsNoHigher rest x = height_of (before x l.none) ≤ height_of (before x rest)
 
 higher_layer : (f : Lettered-F Lettered) (rest : l.Lettered) → IsNoHigher rest (roll-Lettered f)
-higher_layer (parts.Elem n x s kids) rest =
-    let alone : height_of (before (Elem n x s kids) l.none) ≡ max (suc (height_of (trees kids.now))) 0 = ap height_of (before_elem n x s kids l.none) in
-    let both : height_of (before (Elem n x s kids) rest) ≡ max (suc (height_of (trees kids.now))) (height_of rest) = ap height_of (before_elem n x s kids rest) in
-    subst (λ y. IsNoHigher rest y) (sym (rolls-Elem n x s kids)) (omega (arith, alone, both))
+higher_layer (parts.Elem n x kids) rest =
+    let alone : height_of (before (Elem n x kids) l.none) ≡ max (suc (height_of (trees kids.now))) 0 = ap height_of (before_elem n x kids l.none) in
+    let both : height_of (before (Elem n x kids) rest) ≡ max (suc (height_of (trees kids.now))) (height_of rest) = ap height_of (before_elem n x kids rest) in
+    subst (λ y. IsNoHigher rest y) (sym (rolls-Elem n x kids)) (omega (arith, alone, both))
 higher_layer (parts.Text s m) rest =
     let alone : height_of (before (Text s m) l.none) ≡ max 1 0 = ap height_of (before_text s m l.none) in
     let both : height_of (before (Text s m) rest) ≡ max 1 (height_of rest) = ap height_of (before_text s m rest) in

@@ -1,62 +1,49 @@
--- The text of trees, tree by tree: how it is joined, and how it is cut from the document's whole text.
-use Rattle.std.proofs.Common.{◌≡◌, ℕ, ◌+◌, ◌-◌, ◌<◌, ◌≤◌, List, [], ◌∷◌, ◌++◌, refl, ap, ◌∙◌, sym, subst, take, drop, length, get_or, Bor, append_assoc, length-append, arith}
-use Rattle.std.proofs.lemmas.List.{append_cancel_left, append_cancel_right, take_at, drop_at}
-use Rattle.std.proofs.lemmas.Str.{IsCharBoundary-from_take, IsCharBoundary-at_seam, IsUtf8-drop}
-use Rattle.std.specs.Str.{IsUtf8, IsCharBoundary}
+-- Trees tree by tree: their text, and their letters.
+use Rattle.std.proofs.Common.{◌≡◌, ℕ, ◌+◌, ◌<◌, List, [], ◌∷◌, ◌++◌, refl, ap, ◌∙◌, sym, subst, drop, length, get_or, Bor, append_assoc, append-nil, arith}
+use Rattle.std.proofs.lemmas.List.{drop_all}
 use Rattle.tc_model.specs.Chains.{joined_texts}
 use Rattle.tc_model.specs.Views as see
 use Rattle.tc_model.specs.Trees as t
+use Rattle.tc_model.specs.Trees.{beside}
 use Rattle.tc_model.specs.declared.tree.Name.{Name}
 use Rattle.tc_model.specs.declared.tree.Node.{Node, Elem, Text}
+use Rattle.tc_model.proofs.NormalForm.{beside_assoc}
 use Rattle.tc_model.proofs.Views.{left_elem, left_text}
+use Rattle.tc_rules.specs.declared.rules.Marks.{Marks}
 use Rattle.tc_run.specs.Lettered as l
-use Rattle.tc_run.specs.Running.{symbols_by, predicates_by, lettered_by, IsLetteredBy}
+use Rattle.tc_run.specs.Lettered.{bare}
+use Rattle.tc_run.specs.Running.{symbols_by, predicates_by, IsLetteredIn}
 use Rattle.tc_run.specs.Views.{before, trees}
-use Rattle.tc_run.specs.declared.letters.Lettered.{Lettered}
+use Rattle.tc_run.specs.declared.letters.Letter.{Letter}
+use Rattle.tc_run.specs.declared.letters.Lettered.{Lettered, Text as TextOf, Elem as ElemOf}
 use Rattle.tc_run.specs.declared.runner.Runner.{Runner}
-use Rattle.tc_run.proofs.LetteredSteps.{bare_lettered, is_lettered}
-use Rattle.tc_run.proofs.Views.{joined, before_joined}
+use Rattle.tc_run.proofs.LetteredSteps.{bare_joined, lettered_joined}
+use Rattle.tc_run.proofs.Views.{joined, before_joined, before_elem, before_text, left_one}
 
-pub text_joined : (ns : List Node) (i : ℕ) (x : Node) (s : Bor (List ℕ)) → i < length ns → x ≡ get_or ns i x → x ≡ Text s
-    → joined_texts (see.trees (drop i ns)) ≡ s.now ++ joined_texts (see.trees (drop (i + 1) ns))
-text_joined ns i x s h e is = ap joined_texts (left_text ns i x s h e is)
+pub text_joined : (ns : List Lettered) (i : ℕ) (x : Lettered) (s : Bor (List ℕ)) (m : Marks) → i < length ns → x ≡ get_or ns i x → x ≡ TextOf s m
+    → joined_texts (bare (trees (drop i ns))) ≡ s.now ++ joined_texts (bare (trees (drop (i + 1) ns)))
+text_joined ns i x s m h e is =
+    ap (λ y. joined_texts (bare y)) (left_one ns i x h e ∙ (ap (λ z. before z (trees (drop (i + 1) ns))) is ∙ before_text s m (trees (drop (i + 1) ns))))
 
-pub elem_joined : (ns : List Node) (i : ℕ) (x : Node) (n : Name) (kids : Bor (List Node)) → i < length ns → x ≡ get_or ns i x → x ≡ Elem n kids
-    → joined_texts (see.trees (drop i ns)) ≡ joined_texts (see.trees kids.now) ++ joined_texts (see.trees (drop (i + 1) ns))
-elem_joined ns i x n kids h e is = ap joined_texts (left_elem ns i x n kids h e is)
+pub elem_joined : (ns : List Lettered) (i : ℕ) (x : Lettered) (n : Name) (y : Letter) (kids : Bor (List Lettered)) → i < length ns → x ≡ get_or ns i x → x ≡ ElemOf n y kids
+    → joined_texts (bare (trees (drop i ns))) ≡ joined_texts (bare (trees kids.now)) ++ joined_texts (bare (trees (drop (i + 1) ns)))
+elem_joined ns i x n y kids h e is =
+    ap (λ z. joined_texts (bare z)) (left_one ns i x h e ∙ (ap (λ z. before z (trees (drop (i + 1) ns))) is ∙ before_elem n y kids (trees (drop (i + 1) ns))))
 
--- where a text may be cut: after a text in front of it, and before one at its end
-pub front_cut : (text front : List ℕ) → IsUtf8 text → IsUtf8 front → (rest : List ℕ) × (text ≡ front ++ rest) → IsCharBoundary text (length front)
-front_cut text front u w (rest, e) =
-    let taken : take (length front) text ≡ front = ap (λ x. take (length front) x) e ∙ take_at front rest (length front) refl in
-    let low : length front ≤ length text = omega (arith, ap length e, length-append front rest) in
-    IsCharBoundary-from_take text (length front) u low (subst IsUtf8 (sym taken) w)
-
-pub text_after : (text front rest : List ℕ) → IsUtf8 text → IsUtf8 front → text ≡ front ++ rest → IsUtf8 rest
-text_after text front rest u w e =
-    subst IsUtf8 (ap (λ x. drop (length front) x) e ∙ drop_at front rest (length front) refl) (IsUtf8-drop text (length front) u (front_cut text front u w (rest, e)))
-
-pub end_cut : (text end : List ℕ) → IsUtf8 end → (front : List ℕ) × (text ≡ front ++ end) → IsCharBoundary text (length text - length end)
-end_cut text end u (front, e) =
-    let n : length front ≡ length text - length end = omega (arith, ap length e, length-append front end) in
-    subst (λ k. IsCharBoundary text k) n (IsCharBoundary-at_seam text front end e u)
+-- of one text alone
+pub one_joined : (ns : List Lettered) (x : Lettered) (s : Bor (List ℕ)) (m : Marks) → length ns ≡ 1 → x ≡ get_or ns 0 x → x ≡ TextOf s m → s.now ≡ joined_texts (bare (trees ns))
+one_joined ns x s m one e is =
+    sym (text_joined ns 0 x s m (omega (arith, one)) e is
+    ∙ (ap (λ zs. s.now ++ joined_texts (bare (trees zs))) (drop_all 1 ns (omega (arith, one))) ∙ append-nil s.now))
 
 -- one piece more: u is t and the piece s, and j is s and what is left
 pub joined_further : (t u s j k w : List ℕ) → j ≡ s ++ k → t ++ j ≡ w → u ≡ t ++ s → u ++ k ≡ w
 joined_further t u s j k w e h g = ap (λ x. x ++ k) g ∙ (append_assoc t s k ∙ (ap (λ x. t ++ x) (sym e) ∙ h))
 
--- what is left of a text after a piece of it
-pub cut_front : (text rest s j k tail : List ℕ) → text ≡ j ++ tail → j ≡ s ++ k → text ≡ s ++ rest → rest ≡ k ++ tail
-cut_front text rest s j k tail e f g =
-    append_cancel_left s rest (k ++ tail) (sym g ∙ (e ∙ (ap (λ x. x ++ tail) f ∙ append_assoc s k tail)))
-
--- a piece stands in front
-pub has_front : (text s j k tail : List ℕ) → text ≡ j ++ tail → j ≡ s ++ k → text ≡ s ++ (k ++ tail)
-has_front text s j k tail e f = e ∙ (ap (λ x. x ++ tail) f ∙ append_assoc s k tail)
-
--- what stands before the rest is the piece
-pub cut_end : (text string s rest : List ℕ) → text ≡ s ++ rest → text ≡ string ++ rest → string ≡ s
-cut_end text string s rest e f = append_cancel_right string s rest (sym f ∙ e)
+joined_none : (x : l.Lettered) → joined x l.none ≡ x
+joined_none l.none = refl
+joined_none (l.text s m rest) = ap (l.text s m) (joined_none rest)
+joined_none (l.element n y m o kids rest) = ap (l.element n y m o kids) (joined_none rest)
 
 -- one tree more is found
 pub pushed_first : (ns : List Lettered) (x : Lettered) (k : l.Lettered) → joined (trees (ns ++ x ∷ [])) k ≡ joined (trees ns) (before x k)
@@ -64,32 +51,28 @@ pushed_first [] x k = before_joined x l.none k
 pushed_first (n ∷ ns) x k =
     before_joined n (trees (ns ++ x ∷ [])) k ∙ (ap (before n) (pushed_first ns x k) ∙ sym (before_joined n (trees ns) (before x k)))
 
-pub found_further : (r : Runner) (ns : List Lettered) (x : Lettered) (h rest : t.Trees) (all : l.Lettered)
-    → before x (lettered_by r rest) ≡ lettered_by r h → joined (trees ns) (lettered_by r h) ≡ all → joined (trees (ns ++ x ∷ [])) (lettered_by r rest) ≡ all
-found_further r ns x h rest all e f = pushed_first ns x (lettered_by r rest) ∙ (ap (joined (trees ns)) e ∙ f)
+pushed_last : (ns : List Lettered) (x : Lettered) → trees (ns ++ x ∷ []) ≡ joined (trees ns) (before x l.none)
+pushed_last ns x = sym (joined_none (trees (ns ++ x ∷ []))) ∙ pushed_first ns x l.none
+
+pub found_further : (r : Runner) (numbered : List t.Trees) (now ns : List Lettered) (x : Lettered) → now ≡ ns ++ x ∷ [] → IsLetteredIn r numbered (trees ns) → IsLetteredIn r numbered (before x l.none)
+    → IsLetteredIn r numbered (trees now)
+found_further r numbered now ns x put h k =
+    subst (IsLetteredIn r numbered) (sym (ap trees put ∙ pushed_last ns x)) (lettered_joined (symbols_by r) (predicates_by r) numbered (trees ns) (before x l.none) h k)
+
+pub bare_further : (now ns : List Lettered) (x : Lettered) (h rest all : t.Trees) → now ≡ ns ++ x ∷ [] → h ≡ beside (bare (before x l.none)) rest → beside (bare (trees ns)) h ≡ all
+    → beside (bare (trees now)) rest ≡ all
+bare_further now ns x h rest all put e f =
+    ap (λ z. beside z rest) (ap (λ w. bare (trees w)) put ∙ (ap bare (pushed_last ns x) ∙ bare_joined (trees ns) (before x l.none)))
+    ∙ (beside_assoc (bare (trees ns)) (bare (before x l.none)) rest ∙ (ap (beside (bare (trees ns))) (sym e) ∙ f))
 
 -- the tree that was found is that of the loop
-pub text_found : (r : Runner) (ns : List Node) (i : ℕ) (x : Node) (s : Bor (List ℕ)) → i < length ns → x ≡ get_or ns i x → x ≡ Text s → (f : Lettered)
-    → ((rest : t.Trees) → before f (lettered_by r rest) ≡ lettered_by r (t.text s.now rest))
-    → before f (lettered_by r (see.trees (drop (i + 1) ns))) ≡ lettered_by r (see.trees (drop i ns))
-text_found r ns i x s h e is f found = found (see.trees (drop (i + 1) ns)) ∙ ap (lettered_by r) (sym (left_text ns i x s h e is))
+pub text_found : (ns : List Node) (i : ℕ) (x : Node) (s : Bor (List ℕ)) (m : Marks) → i < length ns → x ≡ get_or ns i x → x ≡ Text s
+    → see.trees (drop i ns) ≡ beside (bare (before (TextOf s m) l.none)) (see.trees (drop (i + 1) ns))
+text_found ns i x s m h e is = left_text ns i x s h e is ∙ sym (ap (λ z. beside (bare z) (see.trees (drop (i + 1) ns))) (before_text s m l.none))
 
-pub elem_found : (r : Runner) (ns : List Node) (i : ℕ) (x : Node) (n : Name) (kids : Bor (List Node)) → i < length ns → x ≡ get_or ns i x → x ≡ Elem n kids → (f : Lettered) (below : l.Lettered)
-    → l.bare below ≡ see.trees kids.now → ((rest : t.Trees) → before f (lettered_by r rest) ≡ lettered_by r (t.element (see.name n) (l.bare below) rest))
-    → before f (lettered_by r (see.trees (drop (i + 1) ns))) ≡ lettered_by r (see.trees (drop i ns))
-elem_found r ns i x n kids h e is f below same found =
-    found (see.trees (drop (i + 1) ns))
-    ∙ ap (lettered_by r) (ap (λ k. t.element (see.name n) k (see.trees (drop (i + 1) ns))) same ∙ sym (left_elem ns i x n kids h e is))
-
--- all of them are found
-pub joined_none : (x : l.Lettered) → joined x l.none ≡ x
-joined_none l.none = refl
-joined_none (l.text s m rest) = ap (l.text s m) (joined_none rest)
-joined_none (l.element n y m s kids rest) = ap (l.element n y m s kids) (joined_none rest)
-
--- what is found of a document is lettered, and nothing is lost
-pub document_lettered : (r : Runner) (x : l.Lettered) (h : t.Trees) → x ≡ lettered_by r h → IsLetteredBy r x
-document_lettered r x h e = subst (λ y. IsLetteredBy r y) (sym e) (is_lettered (symbols_by r) (predicates_by r) h)
-
-pub document_bare : (r : Runner) (x : l.Lettered) (h : t.Trees) → x ≡ lettered_by r h → l.bare x ≡ h
-document_bare r x h e = ap l.bare e ∙ bare_lettered (symbols_by r) (predicates_by r) h
+pub elem_found : (ns : List Node) (i : ℕ) (x : Node) (n : Name) (kids : Bor (List Node)) → i < length ns → x ≡ get_or ns i x → x ≡ Elem n kids → (f : Lettered) (below : t.Trees)
+    → below ≡ see.trees kids.now → bare (before f l.none) ≡ t.element (see.name n) below t.none
+    → see.trees (drop i ns) ≡ beside (bare (before f l.none)) (see.trees (drop (i + 1) ns))
+elem_found ns i x n kids h e is f below same found =
+    left_elem ns i x n kids h e is
+    ∙ (ap (λ k. t.element (see.name n) k (see.trees (drop (i + 1) ns))) (sym same) ∙ sym (ap (λ z. beside z (see.trees (drop (i + 1) ns))) found))

@@ -17,12 +17,12 @@ pub layers_map : (ns : List Lettered) → layers (map before ns) ≡ trees ns
 layers_map [] = refl
 layers_map (n ∷ ns) = ap (before n) (layers_map ns)
 
-pub before_elem : (n : Name) (x : Letter) (s : Bor (List ℕ)) (kids : Bor (List Lettered)) (rest : l.Lettered)
-    → before (Elem n x s kids) rest ≡ l.element (name n) x.sym.0 x.marks.0 s.now (trees kids.now) rest
-before_elem n x s kids rest =
-    ap (λ (y : Lettered). before y rest) (sym (rolls-Elem n x s kids))
-    ∙ (ap (λ (f : l.Lettered → l.Lettered). f rest) (fold-roll-Lettered (l.Lettered → l.Lettered) layer (parts.Elem n x s kids))
-    ∙ ap (λ k. l.element (name n) x.sym.0 x.marks.0 s.now k rest) (layers_map kids.now))
+pub before_elem : (n : Name) (x : Letter) (kids : Bor (List Lettered)) (rest : l.Lettered)
+    → before (Elem n x kids) rest ≡ l.element (name n) x.sym.0 x.marks.0 x.number (trees kids.now) rest
+before_elem n x kids rest =
+    ap (λ (y : Lettered). before y rest) (sym (rolls-Elem n x kids))
+    ∙ (ap (λ (f : l.Lettered → l.Lettered). f rest) (fold-roll-Lettered (l.Lettered → l.Lettered) layer (parts.Elem n x kids))
+    ∙ ap (λ k. l.element (name n) x.sym.0 x.marks.0 x.number k rest) (layers_map kids.now))
 
 pub before_text : (s : Bor (List ℕ)) (m : Marks) (rest : l.Lettered) → before (Text s m) rest ≡ l.text s.now m.0 rest
 before_text s m rest =
@@ -37,13 +37,13 @@ left_one ns i x h e = ap trees (drop_more ns i x h) ∙ ap (λ y. before y (tree
 abbrev pub joined : l.Lettered → l.Lettered → l.Lettered
 joined l.none k = k
 joined (l.text s m rest) k = l.text s m (joined rest k)
-joined (l.element n y m s kids rest) k = l.element n y m s kids (joined rest k)
+joined (l.element n y m o kids rest) k = l.element n y m o kids (joined rest k)
 
 -- a tree stands before what stands beside it
 before_layer : (f : Lettered-F Lettered) (g h : l.Lettered) → joined (before (roll-Lettered f) g) h ≡ before (roll-Lettered f) (joined g h)
-before_layer (parts.Elem n x s kids) g h =
+before_layer (parts.Elem n x kids) g h =
     let P : Lettered → Type 0 = λ y. joined (before y g) h ≡ before y (joined g h) in
-    subst P (sym (rolls-Elem n x s kids)) (ap (λ k. joined k h) (before_elem n x s kids g) ∙ sym (before_elem n x s kids (joined g h)))
+    subst P (sym (rolls-Elem n x kids)) (ap (λ k. joined k h) (before_elem n x kids g) ∙ sym (before_elem n x kids (joined g h)))
 before_layer (parts.Text s m) g h =
     let P : Lettered → Type 0 = λ y. joined (before y g) h ≡ before y (joined g h) in
     subst P (sym (rolls-Text s m)) (ap (λ k. joined k h) (before_text s m g) ∙ sym (before_text s m (joined g h)))

@@ -1,6 +1,8 @@
 pub mod Lettered
 pub mod Views
 pub mod Running
+pub mod Findings
+pub mod Hits
 pub mod Tasks
 pub mod Sights
 pub mod Visits

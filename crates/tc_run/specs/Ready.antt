@@ -1,12 +1,12 @@
 -- What holds where bodies are instantiated: the rules are those of the run, what was found by them is right, and the limits
 -- are kept so far. A record gathers what is asked of a call.
-use Rattle.std.specs.Prelude.{◌≡◌, ◌<◌, ◌≤◌, ℕ, List, Result, OnOk, length}
-use Rattle.tc_model.specs.Chains.{joined_texts}
+use Rattle.std.specs.Prelude.{◌≡◌, ◌<◌, ◌≤◌, ℕ, Result, OnOk, length}
+use Rattle.tc_model.specs.Chains.{children}
 use Rattle.tc_rules.specs.Tasks.{IsSomeMove}
 use Rattle.tc_run.specs.Lettered.{Lettered, bare}
 use Rattle.tc_run.specs.Running.{IsRunner, IsLetteredBy, told_by}
 use Rattle.tc_run.specs.Sights.{AreSeenBy}
-use Rattle.tc_run.specs.Views.{IsContext}
+use Rattle.tc_run.specs.Views.{trees, node}
 use Rattle.tc_run.specs.Visits.{AreFoundBy}
 use Rattle.tc_run.specs.declared.RunFault.{RunFault}
 use Rattle.tc_run.specs.declared.bodies.Context.{Context}
@@ -14,11 +14,16 @@ use Rattle.tc_run.specs.declared.runner.Runner.{Runner}
 use Rattle.tc_run.specs.declared.sights.KnownSights.{KnownSights}
 use Rattle.tc_run.specs.declared.visits.KnownNodes.{KnownNodes}
 
--- a document with its letters, and its text
-pub record IsDocument (r : Runner) (x : Lettered) (text : List ℕ) : Type 0 where
+-- what is kept of the current node is right, and so is the number of its ancestor state
+pub record IsContext (r : Runner) (h : Context) : Type 0 where
+  pub kids : IsLetteredBy r (trees h.kids.now)
+  pub children_are : bare (trees h.kids.now) ≡ children (node h)
+  pub above : h.above < length (told_by r).ancestors.states
+
+-- a document with its letters
+pub record IsDocument (r : Runner) (x : Lettered) : Type 0 where
   pub runner : IsRunner r
   pub nodes : IsLetteredBy r x
-  pub string : text ≡ joined_texts (bare x)
 
 -- a current node, after some sights
 pub record IsAt (r : Runner) (h : Context) (k : KnownSights) : Type 0 where

@@ -1,5 +1,6 @@
 -- What a call that puts out answers: all is put out within the limits, or a limit is passed.
 use Rattle.std.specs.Prelude.{◌≡◌, ◌+◌, ◌<◌, ◌≤◌, ℕ, Result, Ok, Err}
+use Rattle.tc_base.specs.declared.limits.TheConstants.{MOST_OPEN, MOST_WORK}
 use Rattle.tc_model.specs.Trees.{beside}
 use Rattle.tc_model.specs.Views.{trees}
 use Rattle.tc_model.specs.Outcomes.{Outcome}
@@ -8,10 +9,10 @@ use Rattle.tc_run.specs.declared.RunFault.TheVariants.{TooMuchWork, TooOpen, NoM
 use Rattle.tc_run.specs.declared.output.Output.{Output}
 
 abbrev pub most_work : ℕ
-most_work = 4000000
+most_work = MOST_WORK
 
 abbrev pub most_open : ℕ
-most_open = 8000
+most_open = MOST_OPEN
 
 -- within so many bodies and instructions all of this was put out, and the limits are kept
 pub record Spends (around : ℕ) (old new : Output) (o : Outcome) : Type 0 where

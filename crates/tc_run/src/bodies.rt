@@ -4,11 +4,12 @@
 // how many bodies and instructions stand around what it does, and what is remembered of nodes.
 ghost use Rattle.std.specs.Prelude.{◌≡◌, ◌≤◌, ◌<◌, ℕ, List, cond, Contains, is_some, IfSome, OnOk};
 ghost use Rattle.tc_model.specs.Chains as c;
+ghost use Rattle.tc_model.specs.Chains.{string_value};
 ghost use Rattle.tc_model.specs.Letters as letters;
 ghost use Rattle.tc_model.specs.Machine.{CallFreeJob, in_mode, first_hit as first_hit_of, does_in, does_at, takes_in};
 ghost use Rattle.tc_model.specs.Meaning.{all_children as all_children_of, value_of_first};
 ghost use Rattle.tc_model.specs.Numberings.{looks_of, moves_of};
-ghost use Rattle.tc_model.specs.Outcomes.{Outcome, nothing, counted, put_around, copied};
+ghost use Rattle.tc_model.specs.Outcomes.{Outcome, nothing, counted, put as put_text, put_around, copied};
 ghost use Rattle.tc_model.specs.Views as see;
 ghost use Rattle.tc_model.specs.Sheets.{no_instruction, otherwise, CallFreeBody, CallFreeBranches, Inlines, BranchesInline};
 ghost use Rattle.tc_model.specs.Trees as t;
@@ -19,6 +20,7 @@ ghost use Rattle.tc_run.specs.Lettered as l;
 ghost use Rattle.tc_rules.specs.Parts.{IsPart, ArePartBranches};
 ghost use Rattle.tc_run.specs.Running.{IsLetteredBy, HasBodies, told_by, sheet_by, symbols_by, predicates_by, machine, looking};
 ghost use Rattle.tc_run.specs.Ready.{IsDocument, IsAt, IsReadyOn, IsReadyBelow, StaysReady};
+ghost use Rattle.tc_run.specs.Hits.{value_of};
 ghost use Rattle.tc_run.specs.Sights.{AreSeenBy};
 ghost use Rattle.tc_run.specs.Views.{trees, before, node};
 ghost use Rattle.tc_run.specs.Spent.{Answers};
@@ -27,7 +29,7 @@ ghost use Rattle.tc_run.specs.Tasks.{IsMeantBy, IsPartTemplate, built_in as buil
 
 use crate::RunFault;
 use crate::letters::Lettered;
-use crate::looks::{first_hit, holds};
+use crate::looks::{Hit, first_hit, holds};
 use crate::output::{Output, deeper};
 use crate::runner::Runner;
 use crate::sights::KnownSights;
@@ -57,14 +59,13 @@ fn all_children<'b>() -> &'b Path<'b>
 pub(crate) enum Shape<'b> {
     Root,
     Elem(Name<'b>),
-    Text,
+    Text(&'b str),
 }
 
-/// The current node: what it is, its string-value, its children, and the ancestor state for them.
+/// The current node: what it is, its children, and the ancestor state for them.
 #[derive(Clone, Copy)]
 pub(crate) struct Context<'b> {
     pub(crate) shape: Shape<'b>,
-    pub(crate) string: &'b str,
     pub(crate) kids: &'b [Lettered<'b>],
     pub(crate) above: u32,
 }
@@ -74,10 +75,9 @@ pub(crate) fn root<'b>(
     arena: &'b Bump,
     runner: &Runner<'_, 'b>,
     nodes: &'b [Lettered<'b>],
-    string: &'b str,
     output: &mut Output<'b>,
 ) -> Result<(), RunFault>
-    requires document { IsDocument runner.now (trees nodes.now) string.now }
+    requires document { IsDocument runner.now (trees nodes.now) }
     requires work { output.old.work ≤ 4000000 }
     ensures few { OnOk result (output.new.work ≤ 4000000) }
     ensures outcome { (bodies : List CallFreeBody) → HasBodies runner.now bodies
@@ -88,7 +88,6 @@ pub(crate) fn root<'b>(
 {
     let here = Context {
         shape: Shape::Root,
-        string,
         kids: nodes,
         above: 0,
     };
@@ -169,7 +168,7 @@ fn built_in<'b>(
 {
     let nesting = deeper(nesting)?;
     match here.shape {
-        Shape::Text => output.put(here.string),
+        Shape::Text(text) => output.put(text),
         _ => {
             let path = all_children();
             selected(runner, path, Job::Mode(mode), here, nesting, output, known)
@@ -232,10 +231,10 @@ fn instruction<'b>(
             instantiate(runner, Template::Body(called), here, nesting, output, known)
         }
         Instr::ValueOf(path) => {
-            let first = value(runner, path, here, &mut known.sights);
-            output.put(first)
+            let first = first_node(runner, path, here, &mut known.sights);
+            output.put_value(first)
         }
-        Instr::ValueOfSelf => output.put(here.string),
+        Instr::ValueOfSelf => put_self(here, output),
         Instr::Choose(branches, last) => {
             let chosen = chosen_branch(runner, branches, last, here, &mut known.sights);
             body(runner, chosen, here, nesting, output, known)
@@ -299,28 +298,41 @@ fn copy<'b>(
     match here.shape {
         Shape::Root => body(runner, inner, here, nesting, output, known),
         Shape::Elem(name) => put_element(runner, name, inner, here, nesting, output, known),
-        Shape::Text => output.put(here.string),
+        Shape::Text(text) => output.put(text),
     }
 }
 
-/// The string-value of the node that a path selects first (XSLT 1.0, 7.6.1).
-fn value<'b>(
+/// The string-value of the current node.
+fn put_self<'b>(here: &Context<'b>, output: &mut Output<'b>) -> Result<(), RunFault>
+    requires { output.old.work ≤ 4000000 }
+    ensures few { OnOk result (output.new.work ≤ 4000000) }
+    ensures outcome { (around : ℕ) → around ≤ 8000
+        → Answers around output.old output.new result (put_text (string_value (node here.now))) }
+{
+    match here.shape {
+        Shape::Text(text) => output.put(text),
+        _ => output.put_joined(here.kids),
+    }
+}
+
+/// The node that a path selects first (XSLT 1.0, 7.6.1).
+fn first_node<'b>(
     runner: &Runner<'_, 'b>,
     path: &Path<'_>,
     here: &Context<'b>,
     known: &mut KnownSights<'_>,
-) -> &'b str
+) -> Option<Hit<'b>>
     requires here { IsAt runner.now here.now known.old }
     requires path { Contains (looks_of (sheet_by runner.now)) (see.path path.now) }
     ensures known { AreSeenBy runner.now known.new }
-    ensures value { result.now
+    ensures value { value_of result
         ≡ value_of_first
         (first_hit_of (looking runner.now) (l.bare (trees here.now.kids.now))
         (looking_from (see.path path.now))) }
 {
     match runner.rules.look_first(path) {
-        None => "",
-        Some(look) => first_hit(runner, here.kids, look, known).unwrap_or(""),
+        None => None,
+        Some(look) => first_hit(runner, here.kids, look, known),
     }
 }
 
@@ -426,12 +438,11 @@ fn apply_to_tree<'b>(
         Lettered::Text(text, marks) => {
             apply_to_text(runner, text, *marks, above, state, nesting, output, known)
         }
-        Lettered::Elem(name, letter, string, kids) => {
+        Lettered::Elem(name, letter, kids) => {
             let kind = Kind::Elem(letter.sym);
             let visit = known.visit(runner, state, above, kind, letter.marks);
             let here = Context {
                 shape: Shape::Elem(*name),
-                string: *string,
                 kids: *kids,
                 above: visit.next.above,
             };
@@ -468,8 +479,7 @@ fn apply_to_text<'b>(
 {
     let visit = known.visit(runner, state, above, Kind::Text, marks);
     let here = Context {
-        shape: Shape::Text,
-        string: text,
+        shape: Shape::Text(text),
         kids: &[],
         above,
     };

@@ -13,6 +13,7 @@ ghost use Rattle.tc_run.specs.Lawful.{HasLawfulResults};
 ghost use Rattle.tc_run.specs.Limits.{KeepsLimits, IsCause};
 
 mod bodies;
+mod findings;
 mod known_names;
 mod letters;
 mod looks;
@@ -24,7 +25,7 @@ mod visits;
 
 use bodies::root;
 use bumpalo::Bump;
-use letters::{lettered_document, text_of};
+use letters::lettered_document;
 use output::Output;
 use runner::Runner;
 use std::slice::from_ref;
@@ -79,10 +80,13 @@ pub fn run<'b>(
     ensures cause { IfErr result (λ e. IsCause (told rules.now).sheet (before doc.now none) e) }
 {
     let nodes = from_ref(doc);
-    let text = text_of(arena, nodes)?;
-    let runner = Runner { rules, alphabet };
-    let document = lettered_document(arena, &runner, nodes, text)?;
+    let document = lettered_document(arena, rules, alphabet, nodes)?;
+    let runner = Runner {
+        rules,
+        alphabet,
+        numbered: document.numbered,
+    };
     let mut output = Output::new(arena);
-    root(arena, &runner, document, text, &mut output)?;
+    root(arena, &runner, document.nodes, &mut output)?;
     Ok(normalise(arena, &output.nodes)?)
 }

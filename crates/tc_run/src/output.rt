@@ -3,19 +3,21 @@ ghost use Rattle.std.specs.Prelude.{◌≡◌, ◌+◌, ◌<◌, ◌≤◌, ◌+
 ghost use Rattle.tc_model.specs.Outcomes.{put as put_text};
 ghost use Rattle.tc_model.specs.Views.{name as see_name, trees};
 ghost use Rattle.tc_model.specs.Trees.{none, element, beside};
+ghost use Rattle.tc_model.specs.Chains.{joined_texts};
+ghost use Rattle.tc_run.specs.Hits.{value_of};
+ghost use Rattle.tc_run.specs.Lettered.{bare};
 ghost use Rattle.tc_run.specs.Spent.{Answers};
+ghost use Rattle.tc_run.specs.Views as l;
 
 use crate::RunFault;
+use crate::letters::{Lettered, joined_text};
+use crate::looks::Hit;
 use bumpalo::Bump;
 use bumpalo::collections::into_bump_slice;
 use std::mem;
 use tc_base::NoMemory;
+use tc_base::limits::{MOST_OPEN, MOST_WORK};
 use tc_model::{Name, Node};
-
-/// The most work and the most nesting.
-const MOST_WORK: u32 = 4_000_000;
-
-const MOST_OPEN: u32 = 8_000;
 
 /// What was put out so far beside one another, and all work that was done.
 #[derive(Drop)]
@@ -79,6 +81,31 @@ impl<'b> Output<'b> {
         self.count()?;
         self.push(Node::Text(text))?;
         Ok(())
+    }
+
+    /// The texts in trees, joined.
+    pub(crate) fn put_joined(&mut self, nodes: &'b [Lettered<'b>]) -> Result<(), RunFault>
+        requires { self.old.work ≤ 4000000 }
+        ensures few { OnOk result (self.new.work ≤ 4000000) }
+        ensures outcome { (around : ℕ) → around ≤ 8000 → Answers around self.old self.new result
+            (put_text (joined_texts (bare (l.trees nodes.now)))) }
+    {
+        let text = joined_text(self.arena, nodes)?;
+        self.put(text)
+    }
+
+    /// The string-value of a node that was selected, if one was.
+    pub(crate) fn put_value(&mut self, hit: Option<Hit<'b>>) -> Result<(), RunFault>
+        requires { self.old.work ≤ 4000000 }
+        ensures few { OnOk result (self.new.work ≤ 4000000) }
+        ensures outcome { (around : ℕ) → around ≤ 8000
+            → Answers around self.old self.new result (put_text (value_of hit.entry)) }
+    {
+        match hit {
+            None => self.put(""),
+            Some(Hit::Text(text)) => self.put(text),
+            Some(Hit::Elem(kids)) => self.put_joined(kids),
+        }
     }
 
     /// Goes inside an element: what was put out before it is handed back.

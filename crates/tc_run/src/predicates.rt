@@ -11,7 +11,7 @@ ghost use Rattle.tc_run.specs.Sights.{AreLookedAt, AreSeenBy};
 ghost use Rattle.tc_run.specs.Views.{trees};
 
 use crate::letters::Lettered;
-use crate::looks::{first_hit, holds};
+use crate::looks::{finds, holds};
 use crate::runner::Runner;
 use crate::sights::KnownSights;
 use bumpalo::Bump;
@@ -71,7 +71,7 @@ pub(crate) fn is_met(
         ≡ machine.holds_in (looking runner.now) t (l.bare (trees kids.now)) }
 {
     match asked {
-        Asked::Look(look) => first_hit(runner, kids, look, known).is_some(),
+        Asked::Look(look) => finds(runner, kids, look, known),
         Asked::Test(test) => holds(runner, test, kids, known),
     }
 }

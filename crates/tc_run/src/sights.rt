@@ -1,13 +1,15 @@
 // What looks see of nodes, by their letters. Some of it is remembered, since many nodes have the same letter: each entry is true, so
 // that one is overwritten changes no answer.
-ghost use Rattle.std.specs.Prelude.{◌≡◌, ◌<◌, true, IfOk, IfSome};
+ghost use Rattle.std.specs.Prelude.{◌≡◌, ◌<◌, List, true, IfOk, IfSome};
 ghost use Rattle.tc_model.specs.Letters.{IsLetter};
+ghost use Rattle.tc_model.specs.Trees.{Trees};
 ghost use Rattle.tc_rules.specs.Asked.{letter as see_letter};
 ghost use Rattle.tc_rules.specs.Tasks.{IsSomeLook};
-ghost use Rattle.tc_run.specs.Running.{IsRunner, told_by, symbols_by, predicates_by};
-ghost use Rattle.tc_run.specs.Sights.{AreSeenBy, IsSight, LeadsFor};
+ghost use Rattle.tc_run.specs.Running.{Guide, IsRunner, told_by, symbols_by, predicates_by};
+ghost use Rattle.tc_run.specs.Sights.{AreSeenBy, AreSeenUnder, IsSight, LeadsFor};
 ghost use Rattle.tc_run.specs.declared.runner.Runner.{Runner as RunnerOf};
 
+use crate::findings::Findings;
 use crate::runner::Runner;
 use bumpalo::Bump;
 use tc_base::NoMemory;
@@ -36,6 +38,8 @@ struct Seen {
 #[derive(Drop)]
 pub(crate) struct KnownSights<'b> {
     places: Vec<Option<Seen>, &'b Bump>,
+    /// What looks found below elements.
+    pub(crate) findings: Findings<'b>,
 }
 
 /// The state of a look below an element of a letter. Below a text stands nothing.
@@ -81,10 +85,12 @@ impl<'b> KnownSights<'b> {
     ///
     /// There is no memory for what will be remembered.
     pub(crate) fn new(arena: &'b Bump) -> Result<KnownSights<'b>, NoMemory>
-        ensures { IfOk result (λ k. (r : RunnerOf) → AreSeenBy r k) }
+        ensures { IfOk result
+            (λ k. (g : Guide) (numbered : List Trees) → AreSeenUnder g numbered k) }
     {
         let places = vec![in arena; None; REMEMBERED]?;
-        Ok(KnownSights { places })
+        let findings = Findings::new(arena);
+        Ok(KnownSights { places, findings })
     }
 
     /// What a look sees of a node of a letter, if it is remembered.

@@ -1,5 +1,4 @@
-use Rattle.std.proofs.Common.{◌≡◌, ap, ◌∙◌, sym, subst}
-use Rattle.tc_model.specs.Chains.{joined_texts}
+use Rattle.std.proofs.Common.{◌≡◌, ap, ◌∙◌, subst}
 use Rattle.tc_model.specs.Safety.{IsResultOf}
 use Rattle.tc_model.specs.Views as see
 use Rattle.tc_model.specs.Trees.{Trees, none, normal_form}
@@ -9,39 +8,28 @@ use Rattle.tc_run.specs.Running.{sheet_by}
 use Rattle.tc_run.specs.Views.{trees}
 use Rattle.tc_run.specs.declared.runner.Runner.{Runner}
 use Rattle.tc_run.proofs.Result.{refused, told_as, passes, result_is, keeps_limits}
-use Rattle.tc_run.proofs.Texts.{document_lettered, document_bare}
 use Rattle.tc_run.proofs.run.Goals as goal
 
-pub returns-in_err-text-clause-cause : goal.returns-in_err-text-clause-cause
-returns-in_err-text-clause-cause c =
-    refused c.args.alphabet.now c.args.rules.now c.requires.rules (see.before c.args.doc.now none) c.from_residual.result c.from_residual.ensures.1
-
-pub lettered_document-requires-clause-runner : goal.lettered_document-requires-clause-runner
-lettered_document-requires-clause-runner c = c.requires.rules
-
-pub lettered_document-requires-clause-text : goal.lettered_document-requires-clause-text
-lettered_document-requires-clause-text c = c.in_ok-text.ensures
+pub lettered_document-requires : goal.lettered_document-requires
+lettered_document-requires c = c.requires.rules
 
 pub returns-in_err-document-clause-cause : goal.returns-in_err-document-clause-cause
 returns-in_err-document-clause-cause c =
-    refused c.args.alphabet.now c.args.rules.now c.requires.rules (see.before c.args.doc.now none) c.from_residual-in_err-document.result c.from_residual-in_err-document.ensures.1
+    refused c.args.alphabet.now c.args.rules.now c.requires.rules (see.before c.args.doc.now none) c.from_residual.result c.from_residual.ensures.1
 
 pub root-requires-clause-document : goal.root-requires-clause-document
 root-requires-clause-document c =
-    let r : Runner = record { rules = c.args.rules; alphabet = c.args.alphabet } in
-    let given = trees c.in_ok-document.document.now in
-    let doc = see.trees c.from_ref-nodes.result.now in
+    let r : Runner = record { rules = c.args.rules; alphabet = c.args.alphabet; numbered = c.in_ok-document.document.numbered } in
     record {
       runner = c.requires.rules;
-      nodes = document_lettered r given doc c.in_ok-document.ensures;
-      string = c.in_ok-text.ensures ∙ sym (ap joined_texts (document_bare r given doc c.in_ok-document.ensures));
+      nodes = c.in_ok-document.ensures.0;
     }
 
 pub returns-in_err-root-clause-cause : goal.returns-in_err-root-clause-cause
 returns-in_err-root-clause-cause c =
-    let r : Runner = record { rules = c.args.rules; alphabet = c.args.alphabet } in
-    let given = trees c.in_ok-document.document.now in
-    let same : bare given ≡ see.before c.args.doc.now none = document_bare r given (see.trees c.from_ref-nodes.result.now) c.in_ok-document.ensures ∙ ap see.trees c.from_ref-nodes.ensures.value in
+    let r : Runner = record { rules = c.args.rules; alphabet = c.args.alphabet; numbered = c.in_ok-document.document.numbered } in
+    let given = trees c.in_ok-document.document.nodes.now in
+    let same : bare given ≡ see.before c.args.doc.now none = c.in_ok-document.ensures.1 ∙ ap see.trees c.from_ref-nodes.ensures.value in
     let cause = subst (λ d. IsCause (sheet_by r) d c.in_err-root.field-0.0) same
     (passes r c.requires.rules (bare given) c.new-output.result c.root.new.output c.new-output.ensures.nodes c.new-output.ensures.work c.in_err-root.field-0.0 c.in_err-root.ensures.outcome) in
     told_as c.from_residual-in_err-root.result c.in_err-root.field-0.0 (λ e. IsCause (sheet_by r) (see.before c.args.doc.now none) e) c.from_residual-in_err-root.ensures.1 cause
@@ -52,9 +40,9 @@ returns-in_err-normalise-clause-cause c =
 
 pub returns-clause-result : goal.returns-clause-result
 returns-clause-result c =
-    let r : Runner = record { rules = c.args.rules; alphabet = c.args.alphabet } in
-    let given = trees c.in_ok-document.document.now in
-    let same : bare given ≡ see.before c.args.doc.now none = document_bare r given (see.trees c.from_ref-nodes.result.now) c.in_ok-document.ensures ∙ ap see.trees c.from_ref-nodes.ensures.value in
+    let r : Runner = record { rules = c.args.rules; alphabet = c.args.alphabet; numbered = c.in_ok-document.document.numbered } in
+    let given = trees c.in_ok-document.document.nodes.now in
+    let same : bare given ≡ see.before c.args.doc.now none = c.in_ok-document.ensures.1 ∙ ap see.trees c.from_ref-nodes.ensures.value in
     let result : Trees = see.trees c.in_ok-normalise.field-0.now in
     subst (λ d. IsResultOf (sheet_by r) d result) same
     (result_is r c.requires.rules (bare given) c.new-output.result c.root.new.output c.new-output.ensures.nodes c.new-output.ensures.work c.in_ok-root.ensures.outcome result
@@ -62,8 +50,8 @@ returns-clause-result c =
 
 pub returns-clause-within : goal.returns-clause-within
 returns-clause-within c =
-    let r : Runner = record { rules = c.args.rules; alphabet = c.args.alphabet } in
-    let given = trees c.in_ok-document.document.now in
-    let same : bare given ≡ see.before c.args.doc.now none = document_bare r given (see.trees c.from_ref-nodes.result.now) c.in_ok-document.ensures ∙ ap see.trees c.from_ref-nodes.ensures.value in
+    let r : Runner = record { rules = c.args.rules; alphabet = c.args.alphabet; numbered = c.in_ok-document.document.numbered } in
+    let given = trees c.in_ok-document.document.nodes.now in
+    let same : bare given ≡ see.before c.args.doc.now none = c.in_ok-document.ensures.1 ∙ ap see.trees c.from_ref-nodes.ensures.value in
     subst (λ d. KeepsLimits (sheet_by r) d) same
     (keeps_limits r c.requires.rules (bare given) c.new-output.result c.root.new.output c.new-output.ensures.nodes c.new-output.ensures.work c.in_ok-root.ensures.outcome)

@@ -1,7 +1,7 @@
 use Rattle.std.proofs.Common.{◌+◌, [], ap, ◌∙◌, sym, subst, refl, drop, get_or, Bor, List, Some, is_some, Result, Ok, Err, OnOk, cond, Contains, arith}
 use Rattle.std.specs.Prelude.{IfSome}
 use Rattle.std.specs.Result.{IsErrAnd}
-use Rattle.tc_model.specs.Chains.{children, an_element, a_text, one}
+use Rattle.tc_model.specs.Chains.{children, string_value, an_element, a_text, one}
 use Rattle.tc_model.specs.Machine.{in_mode, in_body, outputs}
 use Rattle.tc_model.specs.Meaning.{all_children}
 use Rattle.tc_model.specs.Numberings.{moves_of}
@@ -12,6 +12,7 @@ use Rattle.tc_rules.specs.Asked.{letter}
 use Rattle.tc_rules.specs.Views.{mode_of}
 use Rattle.tc_rules.specs.RulesView.{ancestor}
 use Rattle.tc_rules.specs.declared.rules.Kind.TheVariants as kinds
+use Rattle.tc_run.specs.Hits.{value_of}
 use Rattle.tc_run.specs.Lettered.{bare, none}
 use Rattle.tc_run.specs.Running.{told_by, sheet_by, symbols_by, predicates_by, machine}
 use Rattle.tc_run.specs.Views.{before, trees, node}
@@ -281,10 +282,10 @@ instruction-returns-in-ValueOf-clause-outcome t c = λ bodies p hb u.
     let h = c.args.here.now in
     let n = c.in_ok-nesting.nesting in
     let named = (sheet_by r).named in
-    let s = c.value-first.result.now in
+    let s = value_of c.first_node-first.result in
     let does_it = value_alone r bodies h named (subst (λ b. Inlines named b p) (value_of_seen c.args.instruction.now c.in-ValueOf.path c.in-ValueOf.is) u) in
-    instructed c.args.nesting n c.args.output.now c.put-in-ValueOf.new.self c.put-in-ValueOf.result (put s) (does r bodies p h) c.in_ok-nesting.ensures.ok
-    (does_it ∙ ap within (value_same r bodies h named (see.path c.in-ValueOf.path) s c.requires.ready.here.children_are c.value-first.ensures.value)) (c.put-in-ValueOf.ensures.outcome n c.in_ok-nesting.ensures.ok.1)
+    instructed c.args.nesting n c.args.output.now c.put_value.new.self c.put_value.result (put s) (does r bodies p h) c.in_ok-nesting.ensures.ok
+    (does_it ∙ ap within (value_same r bodies h named (see.path c.in-ValueOf.path) s c.requires.ready.here.children_are c.first_node-first.ensures.value)) (c.put_value.ensures.outcome n c.in_ok-nesting.ensures.ok.1)
 
 pub instruction-returns-in-ValueOfSelf-clause-outcome : goal.instruction-returns-in-ValueOfSelf-clause-outcome
 instruction-returns-in-ValueOfSelf-clause-outcome t c = λ bodies p hb u.
@@ -293,8 +294,8 @@ instruction-returns-in-ValueOfSelf-clause-outcome t c = λ bodies p hb u.
     let n = c.in_ok-nesting.nesting in
     let named = (sheet_by r).named in
     let does_it = self_alone r bodies h named (subst (λ b. Inlines named b p) (self_seen c.args.instruction.now c.in-ValueOfSelf.is) u) in
-    instructed c.args.nesting n c.args.output.now c.put-in-ValueOfSelf.new.self c.put-in-ValueOfSelf.result (put h.string.now) (does r bodies p h) c.in_ok-nesting.ensures.ok
-    (does_it ∙ ap (λ s. within (put s)) (sym c.requires.ready.here.string)) (c.put-in-ValueOfSelf.ensures.outcome n c.in_ok-nesting.ensures.ok.1)
+    instructed c.args.nesting n c.args.output.now c.put_self.new.output c.put_self.result (put (string_value (node h))) (does r bodies p h) c.in_ok-nesting.ensures.ok
+    does_it (c.put_self.ensures.outcome n c.in_ok-nesting.ensures.ok.1)
 
 pub instruction-returns-in-Choose-clause-outcome : goal.instruction-returns-in-Choose-clause-outcome
 instruction-returns-in-Choose-clause-outcome t c = λ bodies p hb u.
@@ -416,7 +417,7 @@ apply_to_text-returns-clause-outcome w c = λ bodies g hb at.
 pub apply_to_tree-visit-visit-requires-clause-met : goal.apply_to_tree-visit-visit-requires-clause-met
 apply_to_tree-visit-visit-requires-clause-met t c =
     let r = c.args.runner.now in
-    let a = element_at r c.args.node.now c.in-Elem.name c.in-Elem.letter c.in-Elem.string c.in-Elem.kids none c.requires.node c.in-Elem.is in
+    let a = element_at r c.args.node.now c.in-Elem.name c.in-Elem.letter c.in-Elem.kids none c.requires.node c.in-Elem.is in
     record {
       runner = c.requires.ready.runner;
       above = c.requires.ready.above;
@@ -426,13 +427,13 @@ apply_to_tree-visit-visit-requires-clause-met t c =
 pub apply_to_tree-instantiate_some-requires : goal.apply_to_tree-instantiate_some-requires
 apply_to_tree-instantiate_some-requires t c =
     let r = c.args.runner.now in
-    let a = element_at r c.args.node.now c.in-Elem.name c.in-Elem.letter c.in-Elem.string c.in-Elem.kids none c.requires.node c.in-Elem.is in
+    let a = element_at r c.args.node.now c.in-Elem.name c.in-Elem.letter c.in-Elem.kids none c.requires.node c.in-Elem.is in
     let d = c.visit-visit.ensures.visit.next.above in (
-      omega (arith, c.decreases, below_less c.args.nesting c.args.node.now c.in-Elem.name c.in-Elem.letter c.in-Elem.string c.in-Elem.kids 4 c.in-Elem.is (omega arith)),
+      omega (arith, c.decreases, below_less c.args.nesting c.args.node.now c.in-Elem.name c.in-Elem.letter c.in-Elem.kids 4 c.in-Elem.is (omega arith)),
       (
         record {
           runner = c.requires.ready.runner;
-          here = is_here_elem r c.in-Elem.name c.in-Elem.letter c.in-Elem.string c.in-Elem.kids none c.visit-visit.result.next.above a (down_low r c.visit-visit.result.next.above _ d);
+          here = is_here_elem r c.in-Elem.name c.in-Elem.letter c.in-Elem.kids none c.visit-visit.result.next.above a (down_low r c.visit-visit.result.next.above _ d);
           known = c.visit-visit.ensures.known;
           work = c.requires.ready.work;
           nesting = c.requires.ready.nesting;
@@ -446,7 +447,6 @@ apply_to_tree-returns-in_err-instantiate_some-in-Elem-clause-outcome t c = λ bo
     let r = c.args.runner.now in
     let n = c.args.nesting in
     let e = c.in_err-instantiate_some-in-Elem.field-0.0 in
-    let s = c.in-Elem.string in
     let kids = c.in-Elem.kids in
     let name = c.in-Elem.name in
     let y = c.in-Elem.letter in
@@ -454,12 +454,12 @@ apply_to_tree-returns-in_err-instantiate_some-in-Elem-clause-outcome t c = λ bo
     let x = letter (kinds.Elem y.sym) y.marks in
     let v = c.visit-visit.ensures.visit in
     let next = c.visit-visit.result.next in
-    let h = here_elem name s kids next.above in
+    let h = here_elem name kids next.above in
     let p = (machine r bodies).body_at g.task (ancestor (told_by r) above) x in
     let done = counted (does r bodies p h) in
     let first = cond ((machine r bodies).move_hits g x) done nothing in
     let below = outputs_on r bodies (bare (trees kids.now)) h.above ((machine r bodies).move_step g x) in
-    let whole = outs_of_element r bodies above g h c.args.node.now name y s kids c.requires.node c.in-Elem.is refl (down_is r next.above _ v.next.above) in
+    let whole = outs_of_element r bodies above g h c.args.node.now name y kids c.requires.node c.in-Elem.is refl (down_is r next.above _ v.next.above) in
     let meant = v.template.meant bodies g (node h) hb at (λ i. element_built_in h (see.name name) (bare (trees kids.now)) y.sym.0 refl i) in
     let fails = subst (Fails n c.args.output.now e) (template_seen r c.args.state above x c.visit-visit.result.template v.template bodies g done at) (c.in_err-instantiate_some-in-Elem.ensures.outcome bodies p hb meant) in
     handed n c.args.output.now c.instantiate_some.new.output c.from_residual.result e (outputs_on r bodies (bare (before c.args.node.now none)) above g) c.from_residual.ensures.1
@@ -469,10 +469,10 @@ pub apply_to_tree-apply_to_trees-requires : goal.apply_to_tree-apply_to_trees-re
 apply_to_tree-apply_to_trees-requires t c =
     let r = c.args.runner.now in
     let x = letter (kinds.Elem c.in-Elem.letter.sym) c.in-Elem.letter.marks in
-    let a = element_at r c.args.node.now c.in-Elem.name c.in-Elem.letter c.in-Elem.string c.in-Elem.kids none c.requires.node c.in-Elem.is in
+    let a = element_at r c.args.node.now c.in-Elem.name c.in-Elem.letter c.in-Elem.kids none c.requires.node c.in-Elem.is in
     let next = c.visit-visit.result.next in
     let v = c.visit-visit.ensures.visit.next in (
-      omega (arith, c.decreases, below_less c.args.nesting c.args.node.now c.in-Elem.name c.in-Elem.letter c.in-Elem.string c.in-Elem.kids 1 c.in-Elem.is (omega arith)),
+      omega (arith, c.decreases, below_less c.args.nesting c.args.node.now c.in-Elem.name c.in-Elem.letter c.in-Elem.kids 1 c.in-Elem.is (omega arith)),
       (
         record {
           runner = c.requires.ready.runner;
@@ -490,7 +490,6 @@ pub apply_to_tree-returns-in-None-clause-outcome : goal.apply_to_tree-returns-in
 apply_to_tree-returns-in-None-clause-outcome t c = λ bodies g hb at.
     let r = c.args.runner.now in
     let n = c.args.nesting in
-    let s = c.in-Elem.string in
     let kids = c.in-Elem.kids in
     let name = c.in-Elem.name in
     let y = c.in-Elem.letter in
@@ -498,12 +497,12 @@ apply_to_tree-returns-in-None-clause-outcome t c = λ bodies g hb at.
     let x = letter (kinds.Elem y.sym) y.marks in
     let v = c.visit-visit.ensures.visit in
     let next = c.visit-visit.result.next in
-    let h = here_elem name s kids next.above in
+    let h = here_elem name kids next.above in
     let p = (machine r bodies).body_at g.task (ancestor (told_by r) above) x in
     let done = counted (does r bodies p h) in
     let first = cond ((machine r bodies).move_hits g x) done nothing in
     let below = outputs_on r bodies (bare (trees kids.now)) h.above ((machine r bodies).move_step g x) in
-    let whole = outs_of_element r bodies above g h c.args.node.now name y s kids c.requires.node c.in-Elem.is refl (down_is r next.above _ v.next.above) in
+    let whole = outs_of_element r bodies above g h c.args.node.now name y kids c.requires.node c.in-Elem.is refl (down_is r next.above _ v.next.above) in
     let meant = v.template.meant bodies g (node h) hb at (λ i. element_built_in h (see.name name) (bare (trees kids.now)) y.sym.0 refl i) in
     let spends = subst (Spends n c.args.output.now c.instantiate_some.new.output) (template_seen r c.args.state above x c.visit-visit.result.template v.template bodies g done at)
     (c.in_ok-instantiate_some-in-Elem.ensures.outcome bodies p hb meant) in
@@ -516,7 +515,6 @@ pub apply_to_tree-returns-in-Some-clause-outcome : goal.apply_to_tree-returns-in
 apply_to_tree-returns-in-Some-clause-outcome t c = λ bodies g hb at.
     let r = c.args.runner.now in
     let n = c.args.nesting in
-    let s = c.in-Elem.string in
     let kids = c.in-Elem.kids in
     let name = c.in-Elem.name in
     let y = c.in-Elem.letter in
@@ -524,13 +522,13 @@ apply_to_tree-returns-in-Some-clause-outcome t c = λ bodies g hb at.
     let x = letter (kinds.Elem y.sym) y.marks in
     let v = c.visit-visit.ensures.visit in
     let next = c.visit-visit.result.next in
-    let h = here_elem name s kids next.above in
+    let h = here_elem name kids next.above in
     let p = (machine r bodies).body_at g.task (ancestor (told_by r) above) x in
     let done = counted (does r bodies p h) in
     let first = cond ((machine r bodies).move_hits g x) done nothing in
     let going = (machine r bodies).move_step g x in
     let below = outputs_on r bodies (bare (trees kids.now)) h.above going in
-    let whole = outs_of_element r bodies above g h c.args.node.now name y s kids c.requires.node c.in-Elem.is refl (down_is r next.above _ v.next.above) in
+    let whole = outs_of_element r bodies above g h c.args.node.now name y kids c.requires.node c.in-Elem.is refl (down_is r next.above _ v.next.above) in
     let meant = v.template.meant bodies g (node h) hb at (λ i. element_built_in h (see.name name) (bare (trees kids.now)) y.sym.0 refl i) in
     let spends = subst (Spends n c.args.output.now c.instantiate_some.new.output) (template_seen r c.args.state above x c.visit-visit.result.template v.template bodies g done at)
     (c.in_ok-instantiate_some-in-Elem.ensures.outcome bodies p hb meant) in
@@ -571,10 +569,10 @@ pub instruction-returns-in-Call-clause-ready : goal.instruction-returns-in-Call-
 instruction-returns-in-Call-clause-ready t c = c.instantiate.ensures.ready
 
 pub instruction-returns-in-ValueOf-clause-ready : goal.instruction-returns-in-ValueOf-clause-ready
-instruction-returns-in-ValueOf-clause-ready t c = record { few = c.put-in-ValueOf.ensures.few; known = record { found = c.requires.ready.known.found; sights = c.value-first.ensures.known } }
+instruction-returns-in-ValueOf-clause-ready t c = record { few = c.put_value.ensures.few; known = record { found = c.requires.ready.known.found; sights = c.first_node-first.ensures.known } }
 
 pub instruction-returns-in-ValueOfSelf-clause-ready : goal.instruction-returns-in-ValueOfSelf-clause-ready
-instruction-returns-in-ValueOfSelf-clause-ready t c = record { few = c.put-in-ValueOfSelf.ensures.few; known = c.requires.ready.known }
+instruction-returns-in-ValueOfSelf-clause-ready t c = record { few = c.put_self.ensures.few; known = c.requires.ready.known }
 
 pub instruction-returns-in-Choose-clause-ready : goal.instruction-returns-in-Choose-clause-ready
 instruction-returns-in-Choose-clause-ready t c = c.body.ensures.ready
@@ -658,8 +656,8 @@ apply_to_tree-returns-in-None-clause-ready t c = c.in_ok-instantiate_some-in-Ele
 pub apply_to_tree-returns-in_err-instantiate_some-in-Elem-clause-ready : goal.apply_to_tree-returns-in_err-instantiate_some-in-Elem-clause-ready
 apply_to_tree-returns-in_err-instantiate_some-in-Elem-clause-ready t c = record { few = failed c.from_residual.result _ _ c.from_residual.ensures.1; known = c.in_err-instantiate_some-in-Elem.ensures.ready.known }
 
-pub instruction-value-first-requires-clause-here : goal.instruction-value-first-requires-clause-here
-instruction-value-first-requires-clause-here t c = record { runner = c.requires.ready.runner; here = c.requires.ready.here; known = c.requires.ready.known.sights }
+pub instruction-first_node-first-requires-clause-here : goal.instruction-first_node-first-requires-clause-here
+instruction-first_node-first-requires-clause-here t c = record { runner = c.requires.ready.runner; here = c.requires.ready.here; known = c.requires.ready.known.sights }
 
 pub instruction-chosen_branch-chosen-requires-clause-here : goal.instruction-chosen_branch-chosen-requires-clause-here
 instruction-chosen_branch-chosen-requires-clause-here t c = record { runner = c.requires.ready.runner; here = c.requires.ready.here; known = c.requires.ready.known.sights }

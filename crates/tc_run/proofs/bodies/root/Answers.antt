@@ -26,7 +26,7 @@ returns-clause-outcome c = λ bodies hb.
     let rule = chosen rules 0 (λ i q. fits q.pattern (top t.none)) in
     let p = plain_of bodies (built_in 0 (whole doc)) rule in
     let number = chosen_number rules 0 (λ i q. fits q.pattern (top t.none)) (found c.root_rule-found.result) (c.root_rule-found.ensures (symbols_by r) c.requires.document.runner) in
-    subst (λ o. Answers 0 c.args.output.now c.instantiate-done.new.output c.instantiate-done.result (counted o)) (does_on_root r bodies p c.args.string c.args.nodes (down_is r 0 _ (ancestors_begin (symbols_by r) r.rules.now c.requires.document.runner)))
+    subst (λ o. Answers 0 c.args.output.now c.instantiate-done.new.output c.instantiate-done.result (counted o)) (does_on_root r bodies p c.args.nodes (down_is r 0 _ (ancestors_begin (symbols_by r) r.rules.now c.requires.document.runner)))
     (c.instantiate-done.ensures.outcome bodies p hb (c.template_of-rule.ensures.meant bodies (whole doc) rule hb number))
 
 pub instantiate-done-requires-clause-meant : goal.instantiate-done-requires-clause-meant
@@ -49,7 +49,7 @@ instantiate-done-requires-clause-ready c =
     let r = c.args.runner.now in
     record {
       runner = c.requires.document.runner;
-      here = is_here_root r c.args.string c.args.nodes 0 c.requires.document.nodes c.requires.document.string (down_low r 0 _ (ancestors_begin (symbols_by r) r.rules.now c.requires.document.runner));
+      here = is_here_root r c.args.nodes 0 c.requires.document.nodes (down_low r 0 _ (ancestors_begin (symbols_by r) r.rules.now c.requires.document.runner));
       known = c.in_ok-known.ensures r;
       work = c.requires.work;
       nesting = omega arith;

@@ -8,7 +8,7 @@ use Rattle.tc_rules.specs.Parts.{IsPartTest}
 use Rattle.tc_run.specs.Running.{looking, sheet_by, symbols_by}
 use Rattle.tc_run.specs.Views.{trees}
 use Rattle.tc_rules.specs.Tasks.{looking_from}
-use Rattle.tc_run.proofs.FirstHits.{none_first, answered_some}
+use Rattle.tc_run.proofs.FirstHits.{none_first}
 use Rattle.tc_run.proofs.Tested.{part_next, hold_further, one_fails, fail_further, one_holds, all_held, all_failed}
 use Rattle.tc_run.proofs.looks.+tests.Goals as goal
 
@@ -35,9 +35,8 @@ holds-returns-in-Some-clause-holds t c =
     let r = c.args.runner.now in
     let h = l.bare (trees c.args.kids.now) in
     let p = see.path c.in-Has.path in
-    c.is_some.ensures
-    ∙ (answered_some c.first_hit.result (machine.first_hit (looking r) h (looking_from p)) (c.first_hit.ensures.answer (looking_from p) (c.in-Some.ensures (symbols_by r) c.requires.kids.runner))
-    ∙ sym (ap (λ w. machine.holds_in (looking r) w h) (ap see.test c.in-Has.is ∙ see_has c.in-Has.path)))
+    c.finds.ensures.answer (looking_from p) (c.in-Some.ensures (symbols_by r) c.requires.kids.runner)
+    ∙ sym (ap (λ w. machine.holds_in (looking r) w h) (ap see.test c.in-Has.is ∙ see_has c.in-Has.path))
 
 pub holds-returns-in-And-clause-holds : goal.holds-returns-in-And-clause-holds
 holds-returns-in-And-clause-holds t c =

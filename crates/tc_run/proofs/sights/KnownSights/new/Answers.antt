@@ -1,8 +1,10 @@
-use Rattle.std.proofs.Common.{◌≡◌, ℕ, Option, None, Some, Result, Ok, Err, replicate, All, IfOk, IfSome, refl, sym, subst, rules}
+use Rattle.std.proofs.Common.{◌≡◌, ℕ, List, Option, None, Some, Result, Ok, Err, replicate, All, IfOk, IfSome, refl, sym, subst, rules}
 use Rattle.std.specs.Result.{IsErrAnd}
 use Rattle.std.proofs.lemmas.List.Elements.{All-replicate}
-use Rattle.tc_run.specs.Sights.{AreSeenBy, IsSeen}
-use Rattle.tc_run.specs.declared.runner.Runner.{Runner}
+use Rattle.tc_model.specs.Trees.{Trees}
+use Rattle.tc_run.specs.Findings.{AreFoundUnder}
+use Rattle.tc_run.specs.Running.{Guide}
+use Rattle.tc_run.specs.Sights.{AreSeenUnder, IsSeen}
 use Rattle.tc_run.specs.declared.sights.Seen.{Seen}
 use Rattle.tc_run.specs.declared.sights.KnownSights.{KnownSights}
 use Rattle.tc_run.proofs.sights.KnownSights.new.Goals as goal
@@ -12,11 +14,14 @@ nothing_else : (IsOne : Option Seen → Type 0) → ((k : Seen) → IsOne (Some 
 nothing_else IsOne none None is = refl
 nothing_else IsOne none (Some k) is = absurd (none k is)
 
-none_known : (n : ℕ) (k : KnownSights) → k.places.items ≡ replicate n None → (r : Runner) → AreSeenBy r k
-none_known n k same r = record { seen = subst (All (λ (o : Option Seen). IfSome o (IsSeen r))) (sym same) (All-replicate (λ (o : Option Seen). IfSome o (IsSeen r)) n None (search rules)) }
+none_known : (n : ℕ) (k : KnownSights) → k.places.items ≡ replicate n None → ((g : Guide) (numbered : List Trees) → AreFoundUnder g numbered k.findings) → (g : Guide) (numbered : List Trees) → AreSeenUnder g numbered k
+none_known n k same found g numbered = record {
+  seen = subst (All (λ (o : Option Seen). IfSome o (IsSeen g))) (sym same) (All-replicate (λ (o : Option Seen). IfSome o (IsSeen g)) n None (search rules));
+  findings = found g numbered;
+}
 
 pub returns : goal.returns
-returns c = none_known 1024 _ (c.in_ok-places.ensures.items_if_clones_equal (nothing_else _ (λ k e. e)))
+returns c = none_known 1024 _ (c.in_ok-places.ensures.items_if_clones_equal (nothing_else _ (λ k e. e))) c.new-findings.ensures
 
 -- what fails has no value
 failed : {T E : Type 0} (r : Result T E) (P : T → Type 0) (Q : E → Type 0) → IsErrAnd r Q → IfOk r P

@@ -1,7 +1,9 @@
-use Rattle.std.proofs.Common.{◌≡◌, ℕ, Option, None, Some, Result, Ok, Err, replicate, All, IfOk, IfSome, refl, sym, subst, rules}
+use Rattle.std.proofs.Common.{◌≡◌, ℕ, List, Option, None, Some, Result, Ok, Err, replicate, All, IfOk, IfSome, refl, sym, subst, rules}
 use Rattle.std.specs.Result.{IsErrAnd}
 use Rattle.std.proofs.lemmas.List.Elements.{All-replicate}
-use Rattle.tc_run.specs.Sights.{AreSeenBy}
+use Rattle.tc_model.specs.Trees.{Trees}
+use Rattle.tc_run.specs.Running.{Guide, guide, numbered_by}
+use Rattle.tc_run.specs.Sights.{AreSeenUnder}
 use Rattle.tc_run.specs.Visits.{AreFoundBy, IsKnown}
 use Rattle.tc_run.specs.declared.runner.Runner.{Runner}
 use Rattle.tc_run.specs.declared.visits.Known.{Known}
@@ -13,8 +15,8 @@ nothing_else : (IsOne : Option Known → Type 0) → ((k : Known) → IsOne (Som
 nothing_else IsOne none None is = refl
 nothing_else IsOne none (Some k) is = absurd (none k is)
 
-none_known : (n : ℕ) (k : KnownNodes) → k.places.items ≡ replicate n None → ((r : Runner) → AreSeenBy r k.sights) → (r : Runner) → AreFoundBy r k
-none_known n k same seen r = record { sights = seen r; found = subst (All (λ (o : Option Known). IfSome o (IsKnown r))) (sym same) (All-replicate (λ (o : Option Known). IfSome o (IsKnown r)) n None (search rules)) }
+none_known : (n : ℕ) (k : KnownNodes) → k.places.items ≡ replicate n None → ((g : Guide) (numbered : List Trees) → AreSeenUnder g numbered k.sights) → (r : Runner) → AreFoundBy r k
+none_known n k same seen r = record { sights = seen (guide r) (numbered_by r); found = subst (All (λ (o : Option Known). IfSome o (IsKnown r))) (sym same) (All-replicate (λ (o : Option Known). IfSome o (IsKnown r)) n None (search rules)) }
 
 pub returns : goal.returns
 returns c = none_known 2048 _ (c.in_ok-places.ensures.items_if_clones_equal (nothing_else _ (λ k e. e))) c.in_ok-sights.ensures
