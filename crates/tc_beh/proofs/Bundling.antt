@@ -16,10 +16,11 @@ use Rattle.tc_auto.specs.Stands.{Stands, states}
 use Rattle.tc_auto.specs.declared.arrows.Arrow.{Arrow}
 use Rattle.tc_auto.specs.declared.auto.Auto.{Auto}
 use Rattle.tc_mat.specs.Matrix.{words_a_row}
-use Rattle.tc_beh.specs.Bundles.{no_bundle, bundle_at, IsBundleOf, IsIn, widened, HasEdge, GainsEdge, AreOf, AreLow, AreBundled, IsWordOf, AreWordsOf, HaveCommon, Meet, LeadsBy, PutsBy}
+use Rattle.tc_beh.specs.Bundles.{no_bundle, bundle_at, no_arrow, arrow_at, IsBundleOf, IsIn, widened, HasEdge, GainsEdge, AreOf, AreLow, AreBundled, AreEdges, AreStepsOf, IsCurrent, IsWordOf, AreWordsOf, HaveCommon, Meet, LeadsAlong, LeadsBy, PutsBy, IsAfter, PutsAfter}
 use Rattle.tc_beh.specs.Rooms.{flag_at}
 use Rattle.tc_beh.specs.declared.bundles.Bundle.{Bundle}
-use Rattle.tc_beh.proofs.Flagging.{IsAfter, AreAfter}
+use Rattle.tc_beh.specs.declared.bundles.Bundles.{Bundles}
+use Rattle.tc_beh.specs.declared.bundles.Words.{Words}
 
 -- ---- one edge more
 -- of two bits of which one is set
@@ -220,21 +221,25 @@ no_element xs k v none got = absurd (omega (arith, slice_get_within xs k v got, 
 pub one_longer : {X : Type 0} (old new : List X) (v : X) → new ≡ old ++ v ∷ [] → length new ≡ length old + 1
 one_longer old new v e = ap length e ∙ length-append old (v ∷ [])
 
-pub more_patterns : (a : Auto) (old new : List (Vec Bundle)) (row : Vec Bundle) → new ≡ old ++ row ∷ [] → ((k : ℕ) (v : Vec Bundle) → slice_get old k ≡ Some v → AreBundled a (s.ref_leaf (k + 1)) v.items)
-    → AreBundled a (s.ref_leaf (length old + 1)) row.items → (k : ℕ) (v : Vec Bundle) → slice_get new k ≡ Some v → AreBundled a (s.ref_leaf (k + 1)) v.items
-more_patterns a old new row e are last k v got = by (cases_lt k (length old))
+-- what is so of each stays so where one more is put
+pub each_pushed : {X : Type 0} (old new : List X) (row : X) → new ≡ old ++ row ∷ [] → (P : ℕ → X → Type 0) → ((k : ℕ) (v : X) → slice_get old k ≡ Some v → P k v) → P (length old) row → (k : ℕ) (v : X) → slice_get new k ≡ Some v → P k v
+each_pushed {X} old new row e P are last k v got = by (cases_lt k (length old))
   where
     here : get_or new k v ≡ v
     here = get_or_from_slice_get new k v v got
 
-    by : (k < length old) ⊎ (length old ≤ k) → AreBundled a (s.ref_leaf (k + 1)) v.items
+    by : (k < length old) ⊎ (length old ≤ k) → P k v
     by (inl less) =
         let same : get_or old k v ≡ v = sym (ap (λ l. get_or l k v) e ∙ get_or-append old (row ∷ []) v k less) ∙ here in
         are k v (slice_get-get_or old k v less ∙ ap Some same)
     by (inr past) =
         let end : k ≡ length old = omega (arith, past, slice_get_within new k v got, one_longer old new row e) in
         let same : row ≡ v = sym (ap (λ l. get_or l k v) e ∙ get_or_push old row v k (sym end)) ∙ here in
-        subst (λ (w : Vec Bundle). AreBundled a (s.ref_leaf (k + 1)) w.items) same (subst (λ n. AreBundled a (s.ref_leaf (n + 1)) row.items) (sym end) last)
+        subst (P k) same (subst (λ n. P n row) (sym end) last)
+
+-- words that were made anew
+pub steps_worded : (a : Auto) (b : Bundles) → AreStepsOf a b → (w : Words) → length w.bits.items ≡ length b.words.bits.items → IsCurrent w → AreStepsOf a (record b { words = w })
+steps_worded a b is w count current = record { text = is.text; count = is.count; patterns = is.patterns; words = count ∙ is.words; current = current }
 
 -- ---- words of flags
 abbrev pub AreFirstBits : List ℕ → ℕ → ℕ → ℕ → Type 0
@@ -282,28 +287,22 @@ in_common first second (p, low, l, r) none =
     let e : bit_at (bit_and first second) p ≡ 0 = ap (λ n. bit_at n p) none ∙ bit_at-zero p in
     absurd (omega (arith, e, l, r, bit_at_and first second p))
 
--- ---- flags, bundle by bundle
--- one of the first bundles leads there
-abbrev LeadsFirst : List Bundle → List ℕ → ℕ → ℕ → Type 0
-LeadsFirst bundles words n j = (k : ℕ) × (k < n) × ((bundle_at bundles k).to ≡ j) × Meet (bundle_at bundles k) words
+-- ---- flags, edge by edge or bundle by bundle
+-- one of the first leads there
+abbrev pub LeadsFirst : (ℕ → ℕ) → (ℕ → Type 0) → ℕ → ℕ → Type 0
+LeadsFirst to Holds n j = (k : ℕ) × (k < n) × (to k ≡ j) × Holds k
 
-abbrev pub PutsFirst : List Bundle → List ℕ → ℕ → List ℕ → List ℕ → Type 0
-PutsFirst bundles words n = PutsBy (LeadsFirst bundles words n)
-
-module _ (bundles : List Bundle) (words : List ℕ) where
-  pub none_put : (old : List ℕ) → PutsFirst bundles words 0 old old
-  none_put old = record { each = λ j. inr refl; exact = λ j. (λ h. inl h, λ h. elim h [ inl a ↦ a | inr b ↦ absurd (let m = b.1 in omega (arith, m)) ]) }
-
-  split_first : (n j : ℕ) → LeadsFirst bundles words (n + 1) j → LeadsFirst bundles words n j ⊎ (((bundle_at bundles n).to ≡ j) × Meet (bundle_at bundles n) words)
-  split_first n j (k, low, to, meet) = elim (cases_lt k n) [
-    | inl a ↦ inl (k, a, to, meet)
-    | inr a ↦ let same : k ≡ n = omega (arith, low, a) in inr (subst (λ m. ((bundle_at bundles m).to ≡ j) × Meet (bundle_at bundles m) words) same (to, meet))
+module _ (to : ℕ → ℕ) (Holds : ℕ → Type 0) where
+  split_first : (n j : ℕ) → LeadsFirst to Holds (n + 1) j → LeadsFirst to Holds n j ⊎ ((to n ≡ j) × Holds n)
+  split_first n j (k, low, at, is) = elim (cases_lt k n) [
+    | inl a ↦ inl (k, a, at, is)
+    | inr a ↦ let same : k ≡ n = omega (arith, low, a) in inr (subst (λ m. (to m ≡ j) × Holds m) same (at, is))
   ]
 
-  later : (n j : ℕ) → LeadsFirst bundles words n j → LeadsFirst bundles words (n + 1) j
-  later n j (k, low, to, meet) = (k, omega (arith, low), to, meet)
+  later : (n j : ℕ) → LeadsFirst to Holds n j → LeadsFirst to Holds (n + 1) j
+  later n j (k, low, at, is) = (k, omega (arith, low), at, is)
 
-  pub not_met : (n : ℕ) (old new : List ℕ) → (Meet (bundle_at bundles n) words → ⊥) → PutsFirst bundles words n old new → PutsFirst bundles words (n + 1) old new
+  pub not_met : (n : ℕ) (old new : List ℕ) → (Holds n → ⊥) → PutsBy (LeadsFirst to Holds n) old new → PutsBy (LeadsFirst to Holds (n + 1)) old new
   not_met n old new isnt is = record {
     each = is.each;
     exact = λ j. (
@@ -315,64 +314,90 @@ module _ (bundles : List Bundle) (words : List ℕ) where
     );
   }
 
-  pub is_met : (n : ℕ) (old mid new : List ℕ) → Meet (bundle_at bundles n) words → flag_at new (bundle_at bundles n).to ≡ 1 → ((k : ℕ) → k ≢ 2 + (bundle_at bundles n).to → get_or new k 0 ≡ get_or mid k 0)
-      → PutsFirst bundles words n old mid → PutsFirst bundles words (n + 1) old new
-  is_met n old mid new meet put others is = record { each = each; exact = λ j. (forth j, back j) }
+  pub is_met : (n : ℕ) (old mid new : List ℕ) → Holds n → flag_at new (to n) ≡ 1 → ((k : ℕ) → k ≢ 2 + to n → get_or new k 0 ≡ get_or mid k 0) → PutsBy (LeadsFirst to Holds n) old mid → PutsBy (LeadsFirst to Holds (n + 1)) old new
+  is_met n old mid new holds put others is = record { each = each; exact = λ j. (forth j, back j) }
     where
-      at : (j : ℕ) → ((bundle_at bundles n).to ≡ j) ⊎ (flag_at new j ≡ flag_at mid j)
-      at j = elim (cases_eq (bundle_at bundles n).to j) [ inl a ↦ inl a | inr a ↦ inr (others (2 + j) (λ f. a (omega (arith, f)))) ]
+      at : (j : ℕ) → (to n ≡ j) ⊎ (flag_at new j ≡ flag_at mid j)
+      at j = elim (cases_eq (to n) j) [ inl a ↦ inl a | inr a ↦ inr (others (2 + j) (λ f. a (omega (arith, f)))) ]
 
-      one : (j : ℕ) → (bundle_at bundles n).to ≡ j → flag_at new j ≡ 1
+      one : (j : ℕ) → to n ≡ j → flag_at new j ≡ 1
       one j f = subst (λ k. flag_at new k ≡ 1) f put
 
       each : (j : ℕ) → (flag_at new j ≡ 1) ⊎ (flag_at new j ≡ flag_at old j)
       each j = elim (at j) [ inl a ↦ inl (one j a) | inr a ↦ elim (is.each j) [ inl b ↦ inl (a ∙ b) | inr b ↦ inr (a ∙ b) ] ]
 
-      forth : (j : ℕ) → flag_at new j ≡ 1 → (flag_at old j ≡ 1) ⊎ LeadsFirst bundles words (n + 1) j
+      forth : (j : ℕ) → flag_at new j ≡ 1 → (flag_at old j ≡ 1) ⊎ LeadsFirst to Holds (n + 1) j
       forth j h = elim (at j) [
-        | inl a ↦ inr (n, omega arith, a, meet)
+        | inl a ↦ inr (n, omega arith, a, holds)
         | inr a ↦ elim ((is.exact j).0 (sym a ∙ h)) [ inl b ↦ inl b | inr b ↦ inr (later n j b) ]
       ]
 
-      from : (j : ℕ) → ((bundle_at bundles n).to ≡ j) ⊎ (flag_at new j ≡ flag_at mid j) → flag_at mid j ≡ 1 → flag_at new j ≡ 1
+      from : (j : ℕ) → (to n ≡ j) ⊎ (flag_at new j ≡ flag_at mid j) → flag_at mid j ≡ 1 → flag_at new j ≡ 1
       from j (inl a) h = one j a
       from j (inr a) h = a ∙ h
 
-      back : (j : ℕ) → (flag_at old j ≡ 1) ⊎ LeadsFirst bundles words (n + 1) j → flag_at new j ≡ 1
+      back : (j : ℕ) → (flag_at old j ≡ 1) ⊎ LeadsFirst to Holds (n + 1) j → flag_at new j ≡ 1
       back j (inl a) = from j (at j) ((is.exact j).1 (inl a))
       back j (inr b) = elim (split_first n j b) [ inl d ↦ from j (at j) ((is.exact j).1 (inr d)) | inr d ↦ one j d.0 ]
 
-  pub all_met : (n : ℕ) (old new : List ℕ) → n ≡ length bundles → PutsFirst bundles words n old new → PutsBy (LeadsBy bundles words) old new
-  all_met n old new all is = record {
+-- the first of some edges, and of some bundles
+abbrev pub AlongFirst : List Arrow → List ℕ → ℕ → ℕ → Type 0
+AlongFirst arrows hedge = LeadsFirst (λ k. (arrow_at arrows k).to) (λ k. get_or hedge (arrow_at arrows k).from 0 ≡ 1)
+
+abbrev pub ByFirst : List Bundle → List ℕ → ℕ → ℕ → Type 0
+ByFirst bundles words = LeadsFirst (λ k. (bundle_at bundles k).to) (λ k. Meet (bundle_at bundles k) words)
+
+-- the states to which edges lead from states with a flag
+module _ (a : Auto) (hedge : List ℕ) (taken : s.Leaf) where
+  abbrev AreAfter : (ℕ → Type 0) → Type 0
+  AreAfter Leads = (side : s.Side) (x : g.Grammar) → Stands side x a → (j : ℕ) → Leads j ↔ IsAfter side x a hedge taken j
+
+  puts_after : (Leads : ℕ → Type 0) (old new : List ℕ) → AreAfter Leads → PutsBy Leads old new → PutsAfter a hedge taken old new
+  puts_after Leads old new are is = record {
     each = is.each;
-    exact = λ j. (
-      λ h. elim ((is.exact j).0 h) [ inl b ↦ inl b | inr (k, low, to, meet) ↦ inr (k, omega (arith, low, all), to, meet) ],
-      λ h. elim h [ inl b ↦ (is.exact j).1 (inl b) | inr (k, low, to, meet) ↦ (is.exact j).1 (inr (k, omega (arith, low, all), to, meet)) ],
+    exact = λ side x st j. (
+      λ h. elim ((is.exact j).0 h) [ inl b ↦ inl b | inr b ↦ inr ((are side x st j).0 b) ],
+      λ h. elim h [ inl b ↦ (is.exact j).1 (inl b) | inr b ↦ (is.exact j).1 (inr ((are side x st j).1 b)) ],
     );
   }
 
--- the states to which edges lead from states with a flag
-module _ (a : Auto) (hedge words : List ℕ) (are : AreWordsOf hedge words) (count : length words ≡ words_a_row (states a)) (taken : s.Leaf) (bundles : List Bundle) (is : AreBundled a taken bundles) where
-  pub are_after : AreAfter a hedge taken (LeadsBy bundles words)
-  are_after side x st j = (after_forth, after_back)
-    where
-      after_forth : LeadsBy bundles words j → IsAfter side x a hedge taken j
-      after_forth (k, low, to, (p, fits, one, bit)) =
-          let b : Bundle = bundle_at bundles k in
-          let i = 64 * b.word + p in
-          let e : i ≡ b.word * 64 + p = omega arith in
-          let word : b.word ≡ i / 64 = sym (ap (λ n. n / 64) e ∙ div-mul-add b.word 64 p fits) in
-          let place : i % 64 ≡ p = ap (λ n. n % 64) e ∙ mod-mul-add b.word 64 p fits in
-          let edge : HasEdge bundles i j = (k, low, (word, to, ap (bit_at b.bits) place ∙ bit)) in
-          let inside : b.word < length words = omega (arith, (is.low k low).0, count) in
-          (i, is.from i j edge, (are b.word inside p fits).0 one, (is.exact side x st i j).0 edge)
+  module _ (arrows : List Arrow) (bundles : List Bundle) (edges : AreEdges a taken arrows bundles) (old new : List ℕ) where
+    pub put_along : PutsBy (LeadsAlong arrows hedge) old new → PutsAfter a hedge taken old new
+    put_along is = puts_after (LeadsAlong arrows hedge) old new (λ side x st j. (after_forth side x st j, after_back side x st j)) is
+      where
+        after_forth : (side : s.Side) (x : g.Grammar) → Stands side x a → (j : ℕ) → LeadsAlong arrows hedge j → IsAfter side x a hedge taken j
+        after_forth side x st j (k, low, to, flag) =
+            let e : Arrow = arrow_at arrows k in
+            let there : Contains arrows e = (k, low, get_or_default arrows k e no_arrow low) in
+            (e.from, (edges.within k no_arrow low).0, flag, subst (λ t. s.IsEdge x side e.from taken t) to ((edges.exact side x st e).0 there))
 
-      after_back : IsAfter side x a hedge taken j → LeadsBy bundles words j
-      after_back (i, low, flag, edge) =
-          let (k, within, (word, to, bit)) = (is.exact side x st i j).1 edge in
-          let b : Bundle = bundle_at bundles k in
-          let p = i % 64 in
-          let e : i ≡ 64 * (i / 64) + p = omega arith in
-          let inside : i / 64 < length words = omega (arith, low, count) in
-          let one : bit_at (get_or words (i / 64) 0) p ≡ 1 = (are (i / 64) inside p (omega arith)).1 (ap (λ n. get_or hedge n 0) (sym e) ∙ flag) in
-          (k, within, to, (p, omega arith, ap (λ n. bit_at (get_or words n 0) p) word ∙ one, bit))
+        after_back : (side : s.Side) (x : g.Grammar) → Stands side x a → (j : ℕ) → IsAfter side x a hedge taken j → LeadsAlong arrows hedge j
+        after_back side x st j (i, low, flag, edge) =
+            let e : Arrow = record { from = i; to = j } in
+            let (k, within, at) = (edges.exact side x st e).1 edge in
+            let same : arrow_at arrows k ≡ e = get_or_default arrows k no_arrow e within ∙ at in
+            (k, within, ap (λ (b : Arrow). b.to) same, subst (λ (b : Arrow). get_or hedge b.from 0 ≡ 1) (sym same) flag)
+
+    pub put_by : (words : List ℕ) → AreWordsOf hedge words → words_a_row (states a) ≤ length words → PutsBy (LeadsBy bundles words) old new → PutsAfter a hedge taken old new
+    put_by words are count is = puts_after (LeadsBy bundles words) old new (λ side x st j. (after_forth side x st j, after_back side x st j)) is
+      where
+        after_forth : (side : s.Side) (x : g.Grammar) → Stands side x a → (j : ℕ) → LeadsBy bundles words j → IsAfter side x a hedge taken j
+        after_forth side x st j (k, low, to, (p, fits, one, bit)) =
+            let b : Bundle = bundle_at bundles k in
+            let i = 64 * b.word + p in
+            let e : i ≡ b.word * 64 + p = omega arith in
+            let word : b.word ≡ i / 64 = sym (ap (λ n. n / 64) e ∙ div-mul-add b.word 64 p fits) in
+            let place : i % 64 ≡ p = ap (λ n. n % 64) e ∙ mod-mul-add b.word 64 p fits in
+            let edge : HasEdge bundles i j = (k, low, (word, to, ap (bit_at b.bits) place ∙ bit)) in
+            let inside : b.word < length words = omega (arith, (edges.bundled.low k low).0, count) in
+            (i, edges.bundled.from i j edge, (are b.word inside p fits).0 one, (edges.bundled.exact side x st i j).0 edge)
+
+        after_back : (side : s.Side) (x : g.Grammar) → Stands side x a → (j : ℕ) → IsAfter side x a hedge taken j → LeadsBy bundles words j
+        after_back side x st j (i, low, flag, edge) =
+            let (k, within, (word, to, bit)) = (edges.bundled.exact side x st i j).1 edge in
+            let b : Bundle = bundle_at bundles k in
+            let p = i % 64 in
+            let e : i ≡ 64 * (i / 64) + p = omega arith in
+            let inside : i / 64 < length words = omega (arith, low, count) in
+            let one : bit_at (get_or words (i / 64) 0) p ≡ 1 = (are (i / 64) inside p (omega arith)).1 (ap (λ n. get_or hedge n 0) (sym e) ∙ flag) in
+            (k, within, to, (p, omega arith, ap (λ n. bit_at (get_or words n 0) p) word ∙ one, bit))

@@ -8,7 +8,7 @@ use Rattle.tc_rows.specs.Bodies.{Below}
 use Rattle.tc_beh.specs.Above.{letter_of, node_of}
 use Rattle.tc_beh.specs.Entries.{AreGrounds, AreCalledOn, IsEntryAt, IsNewEntry, Comes, ComesPartly}
 use Rattle.tc_beh.specs.Grounds.{called_from}
-use Rattle.tc_beh.specs.Held.{Extends, set_at}
+use Rattle.tc_beh.specs.Held.{Extends, set_at, GrowsAt}
 use Rattle.tc_beh.specs.Places.{below_at, entries_by, pairs_of}
 use Rattle.tc_beh.specs.Putting.{IsCalled}
 use Rattle.tc_beh.specs.RowsOf.{IsWork}
@@ -77,7 +77,7 @@ module _ (x : Triple) (es : List (List (ℕ × ℕ))) (n : Node) where
 
   -- one entry more
   pub comes_step : (a b c : Held) (f g : ℕ → ℕ) (i k : ℕ) (m : Matrix) → Comes x es n a b f i → ((p : ℕ) → p < i → g p ≡ f p) → g i ≡ k → Extends b c → (k < length c.matrices) × (set_at c k ≡ m)
-      → ((k < length b.matrices) × (c ≡ b)) ⊎ ((k ≡ length b.matrices) × (length c.matrices ≡ length b.matrices + 1)) → IsEntryAt x es n i m → Comes x es n a c g (i + 1)
+      → GrowsAt b c k → IsEntryAt x es n i m → Comes x es n a c g (i + 1)
   comes_step a b c f g i k m so same here more kept how right = record {
     grows = grows_step a b c f g i k so.grows same here more kept.0 how;
     right = λ p l. elim (cases_lt p i) [

@@ -14,14 +14,7 @@ use Rattle.tc_auto.specs.declared.auto.Leaf.{Leaf}
 use Rattle.tc_auto.specs.declared.auto.Leaf.TheVariants as l
 use Rattle.tc_beh.specs.Rooms.{flag_at}
 use Rattle.tc_beh.specs.Appending.{IsTaken, IsStep, Puts}
-use Rattle.tc_beh.specs.Bundles.{PutsBy}
-
--- edges that take a leaf lead there from a state with a flag
-abbrev pub IsAfter : s.Side → g.Grammar → Auto → List ℕ → s.Leaf → ℕ → Type 0
-IsAfter side x a hedge taken j = (i : ℕ) × (i < states a) × (get_or hedge i 0 ≡ 1) × s.IsEdge x side i taken j
-
-abbrev pub AreAfter : Auto → List ℕ → s.Leaf → (ℕ → Type 0) → Type 0
-AreAfter a hedge taken Leads = (side : s.Side) (x : g.Grammar) → Stands side x a → (j : ℕ) → Leads j ↔ IsAfter side x a hedge taken j
+use Rattle.tc_beh.specs.Bundles.{IsAfter, PutsAfter}
 
 -- the first patterns
 pub record PutSoFar (a : Auto) (hedge : List ℕ) (n : ℕ) (patterns new : List ℕ) : Type 0 where
@@ -49,18 +42,18 @@ module _ (a : Auto) (hedge : List ℕ) where
       );
     }
 
-    pub is_put : (n : ℕ) (Leads : ℕ → Type 0) (mid new : List ℕ) → get_or patterns n 0 ≡ 1 → AreAfter a hedge (s.ref_leaf (n + 1)) Leads → PutsBy Leads mid new → PutSoFar a hedge n patterns mid → PutSoFar a hedge (n + 1) patterns new
-    is_put n Leads mid new is_so exact more is = record {
+    pub is_put : (n : ℕ) (mid new : List ℕ) → get_or patterns n 0 ≡ 1 → PutsAfter a hedge (s.ref_leaf (n + 1)) mid new → PutSoFar a hedge n patterns mid → PutSoFar a hedge (n + 1) patterns new
+    is_put n mid new is_so more is = record {
       each = λ j l. let b = is.each j l in elim (more.each j) [ inl e ↦ omega (arith, e) | inr e ↦ omega (arith, e, b) ];
       exact = λ side x st j l. (
-        λ h. elim ((more.exact j).0 h) [
+        λ h. elim ((more.exact side x st j).0 h) [
           | inl b ↦ let (k, m, r, after) = (is.exact side x st j l).0 b in (k, omega (arith, m), r, after)
-          | inr b ↦ (n, omega arith, is_so, (exact side x st j).0 b)
+          | inr b ↦ (n, omega arith, is_so, b)
         ],
         λ (k, m, h, after). elim (cases_lt k n) [
-          | inl b ↦ (more.exact j).1 (inl ((is.exact side x st j l).1 (k, b, h, after)))
+          | inl b ↦ (more.exact side x st j).1 (inl ((is.exact side x st j l).1 (k, b, h, after)))
           | inr b ↦ let same : k ≡ n = omega (arith, m, b) in
-              (more.exact j).1 (inr ((exact side x st j).1 (subst (λ i. IsAfter side x a hedge (s.ref_leaf (i + 1)) j) same after)))
+              (more.exact side x st j).1 (inr (subst (λ i. IsAfter side x a hedge (s.ref_leaf (i + 1)) j) same after))
         ],
       );
     }
@@ -88,19 +81,19 @@ module _ (a : Auto) (hedge : List ℕ) where
         back side x (i, low, h, (e, edge, taken)) = of_leaf side x i low h e edge taken
 
     -- a text
-    pub text_put : (Leads : ℕ → Type 0) (mid new : List ℕ) → AreAfter a hedge s.text_leaf Leads → ((j : ℕ) → j < states a → flag_at mid j ≡ 0) → PutsBy Leads mid new → Puts a hedge true patterns new
-    text_put Leads mid new exact isnt more = record {
+    pub text_put : (mid new : List ℕ) → ((j : ℕ) → j < states a → flag_at mid j ≡ 0) → PutsAfter a hedge s.text_leaf mid new → Puts a hedge true patterns new
+    text_put mid new isnt more = record {
       each = λ j m. let z = isnt j m in elim (more.each j) [ inl e ↦ omega (arith, e) | inr e ↦ omega (arith, e, z) ];
       exact = λ side x st j m. (
-        λ h. elim ((more.exact j).0 h) [
+        λ h. elim ((more.exact side x st j).0 h) [
           | inl b ↦ let z = isnt j m in absurd (omega (arith, z, b))
-          | inr b ↦ let (i, low, is, edge) = (exact side x st j).0 b in (i, low, is, (l.Text, edge, refl))
+          | inr (i, low, is, edge) ↦ (i, low, is, (l.Text, edge, refl))
         ],
-        λ (i, low, h, (e, edge, taken)). (more.exact j).1 (inr (of_leaf side x st i low h e edge taken)),
+        λ (i, low, h, (e, edge, taken)). (more.exact side x st j).1 (inr (of_leaf side x i low h e edge taken)),
       );
     }
       where
-        of_leaf : (side : s.Side) (x : g.Grammar) → Stands side x a → {j : ℕ} (i : ℕ) → i < states a → get_or hedge i 0 ≡ 1 → (e : Leaf) → s.IsEdge x side i (leaf e) j → IsTaken true patterns e
-            → Leads j
-        of_leaf side x st {j} i low h l.Text edge taken = (exact side x st j).1 (i, low, h, edge)
-        of_leaf side x st i low h (l.Ref k) edge (is, one, at) = absurd (cc)
+        of_leaf : (side : s.Side) (x : g.Grammar) {j : ℕ} (i : ℕ) → i < states a → get_or hedge i 0 ≡ 1 → (e : Leaf) → s.IsEdge x side i (leaf e) j → IsTaken true patterns e
+            → IsAfter side x a hedge s.text_leaf j
+        of_leaf side x i low h l.Text edge taken = (i, low, h, edge)
+        of_leaf side x i low h (l.Ref k) edge (is, one, at) = absurd (cc)

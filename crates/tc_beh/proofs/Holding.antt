@@ -6,7 +6,7 @@ use Rattle.std.proofs.lemmas.Bool.{cases_lt}
 use Rattle.tc_mat.specs.Matrix.{Matrix, IsMatrix, IsComposition}
 use Rattle.tc_mat.specs.Held.{Held, IsHeld}
 use Rattle.tc_beh.specs.Places.{no_matrix}
-use Rattle.tc_beh.specs.Held.{Extends, AreFirstFound, Grows, set_at, IsNew, AreProducts}
+use Rattle.tc_beh.specs.Held.{Extends, AreFirstFound, Grows, GrowsAt, set_at, IsNew, AreProducts}
 use Rattle.tc_beh.specs.declared.outputs.RowFault.{RowFault}
 
 pub extends_self : (a : Held) → Extends a a
@@ -56,14 +56,14 @@ found_step old b c i k f g grown same here is how = record { each = each; order 
     ]
 
 pub grows_step : (a b c : Held) (f g : ℕ → ℕ) (i k : ℕ) → Grows a b f i → ((p : ℕ) → p < i → g p ≡ f p) → g i ≡ k → Extends b c → k < length c.matrices
-    → ((k < length b.matrices) × (c ≡ b)) ⊎ ((k ≡ length b.matrices) × (length c.matrices ≡ length b.matrices + 1)) → Grows a c g (i + 1)
+    → GrowsAt b c k → Grows a c g (i + 1)
 grows_step a b c f g i k grown same here more low how = record {
   held = extends_then a b c grown.held more;
   low = lows;
   found = found_step (length a.matrices) (length b.matrices) (length c.matrices) i k f g (extends_count a b grown.held) same here grown.found (counts how);
 }
   where
-    counts : ((k < length b.matrices) × (c ≡ b)) ⊎ ((k ≡ length b.matrices) × (length c.matrices ≡ length b.matrices + 1)) → ((k < length b.matrices) × (length c.matrices ≡ length b.matrices)) ⊎ ((k ≡ length b.matrices) × (length c.matrices ≡ length b.matrices + 1))
+    counts : GrowsAt b c k → ((k < length b.matrices) × (length c.matrices ≡ length b.matrices)) ⊎ ((k ≡ length b.matrices) × (length c.matrices ≡ length b.matrices + 1))
     counts (inl h) = inl (h.0, ap (λ (x : Held). length x.matrices) h.1)
     counts (inr h) = inr h
 
@@ -126,7 +126,7 @@ module _ (old new : Held) (m : Matrix) where
   set_kept (Err f) e = tt
 
   pub grows_kept : (r : Result ℕ RowFault) → IfOk r (λ k. slice_get new.matrices k ≡ Some m) → IfOk r Kept
-      → IfOk r (λ k. ((k < length old.matrices) × (new ≡ old)) ⊎ ((k ≡ length old.matrices) × (length new.matrices ≡ length old.matrices + 1)))
+      → IfOk r (GrowsAt old new)
   grows_kept (Ok k) e (inl h) = inl (subst (λ (x : Held). k < length x.matrices) h (low_got new.matrices k m e), h)
   grows_kept (Ok k) e (inr h) = inr (h.0, ap (λ (x : Held). length x.matrices) h.1 ∙ length-append old.matrices (m ∷ []))
   grows_kept (Err f) e h = tt

@@ -169,6 +169,7 @@ module _ (x : Triple) (m : Machine) (held : Held) (w : Work) (is : IsWork x m he
       links = same.links is.links;
       known = known;
       bundles = is.bundles;
+      takers = is.takers;
       runs = is.runs;
     }
 
@@ -187,6 +188,7 @@ module _ (x : Triple) (m : Machine) (held : Held) (w : Work) (is : IsWork x m he
       known = is.known;
       runs = are;
       bundles = is.bundles;
+      takers = is.takers;
     }
 
     module _ (named : List Matrix) (count : length named ≡ length w.named.items) (named_sizes : All (λ (s : Matrix). s.size ≡ outputs x) named) where
@@ -207,6 +209,7 @@ module _ (x : Triple) (m : Machine) (held : Held) (w : Work) (is : IsWork x m he
         links = same.links is.links;
         known = is.known;
         bundles = is.bundles;
+        takers = is.takers;
         runs = is.runs;
       }
 
@@ -226,6 +229,7 @@ module _ (x : Triple) (m : Machine) (held : Held) (w : Work) (is : IsWork x m he
     known = is.known;
     runs = is.runs;
     bundles = steps;
+    takers = is.takers;
   }
 
   -- room for what is worked out was taken by another
@@ -243,6 +247,7 @@ module _ (x : Triple) (m : Machine) (held : Held) (w : Work) (is : IsWork x m he
     links = linked_more held k more w.sets.met is.links;
     known = is.known;
     bundles = is.bundles;
+    takers = is.takers;
     runs = is.runs;
   }
 
@@ -261,6 +266,7 @@ module _ (x : Triple) (m : Machine) (held : Held) (w : Work) (is : IsWork x m he
     links = same.links (linked_more held k more w.sets.met is.links);
     known = is.known;
     bundles = is.bundles;
+    takers = is.takers;
     runs = is.runs;
   }
 

@@ -5,6 +5,7 @@ use Rattle.std.specs.Int.{bit_at}
 use Rattle.std.specs.List.{Contains}
 use Rattle.tc_model.specs.States as s
 use Rattle.tc_model.specs.Grammars as g
+use Rattle.tc_auto.specs.Arrows.{AreWithin}
 use Rattle.tc_auto.specs.Stands.{Stands, states, patterns}
 use Rattle.tc_auto.specs.declared.arrows.Arrow.{Arrow}
 use Rattle.tc_auto.specs.declared.auto.Auto.{Auto}
@@ -53,6 +54,12 @@ pub record AreBundled (a : Auto) (taken : s.Leaf) (bundles : List Bundle) : Type
   pub from : (i j : ℕ) → HasEdge bundles i j → i < states a
   pub exact : (side : s.Side) (x : g.Grammar) → Stands side x a → (i j : ℕ) → HasEdge bundles i j ↔ s.IsEdge x side i taken j
 
+-- the same one by one and in bundles
+pub record AreEdges (a : Auto) (taken : s.Leaf) (arrows : List Arrow) (bundles : List Bundle) : Type 0 where
+  pub within : AreWithin (states a) arrows
+  pub exact : (side : s.Side) (x : g.Grammar) → Stands side x a → (e : Arrow) → Contains arrows e ↔ s.IsEdge x side e.from taken e.to
+  pub bundled : AreBundled a taken bundles
+
 -- flags as the bits of a word, and of all words
 abbrev pub IsWordOf : List ℕ → ℕ → ℕ → Type 0
 IsWordOf flags word bits = (p : ℕ) → p < 64 → (bit_at bits p ≡ 1) ↔ (get_or flags (64 * word + p) 0 ≡ 1)
@@ -83,7 +90,26 @@ Meet b words = HaveCommon (get_or words b.word 0) b.bits
 abbrev pub LeadsBy : List Bundle → List ℕ → ℕ → Type 0
 LeadsBy bundles words j = (k : ℕ) × (k < length bundles) × ((bundle_at bundles k).to ≡ j) × Meet (bundle_at bundles k) words
 
+-- an edge leads there from a state with a flag
+abbrev pub no_arrow : Arrow
+no_arrow = record { from = 0; to = 0 }
+
+abbrev pub arrow_at : List Arrow → ℕ → Arrow
+arrow_at arrows k = get_or arrows k no_arrow
+
+abbrev pub LeadsAlong : List Arrow → List ℕ → ℕ → Type 0
+LeadsAlong arrows hedge j = (k : ℕ) × (k < length arrows) × ((arrow_at arrows k).to ≡ j) × (get_or hedge (arrow_at arrows k).from 0 ≡ 1)
+
 -- the flags of these states are set, and none else is changed
 pub record PutsBy (Leads : ℕ → Type 0) (old new : List ℕ) : Type 0 where
   pub each : (j : ℕ) → (flag_at new j ≡ 1) ⊎ (flag_at new j ≡ flag_at old j)
   pub exact : (j : ℕ) → (flag_at new j ≡ 1) ↔ ((flag_at old j ≡ 1) ⊎ Leads j)
+
+-- edges that take a leaf lead there from a state with a flag
+abbrev pub IsAfter : s.Side → g.Grammar → Auto → List ℕ → s.Leaf → ℕ → Type 0
+IsAfter side x a hedge taken j = (i : ℕ) × (i < states a) × (get_or hedge i 0 ≡ 1) × s.IsEdge x side i taken j
+
+-- the flags of the states to which such edges lead are set, and none else is changed
+pub record PutsAfter (a : Auto) (hedge : List ℕ) (taken : s.Leaf) (old new : List ℕ) : Type 0 where
+  pub each : (j : ℕ) → (flag_at new j ≡ 1) ⊎ (flag_at new j ≡ flag_at old j)
+  pub exact : (side : s.Side) (x : g.Grammar) → Stands side x a → (j : ℕ) → (flag_at new j ≡ 1) ↔ ((flag_at old j ≡ 1) ⊎ IsAfter side x a hedge taken j)

@@ -1,5 +1,5 @@
 -- How the sets of pairs that are held grow, and what stands in rows over them.
-use Rattle.std.specs.Prelude.{◌≡◌, ◌<◌, ◌≤◌, ◌++◌, ℕ, List, length, get_or}
+use Rattle.std.specs.Prelude.{◌≡◌, ◌<◌, ◌≤◌, ◌+◌, ◌⊎◌, ◌++◌, ℕ, List, length, get_or}
 use Rattle.tc_mat.specs.Matrix.{Matrix, IsComposition, IsMatrix}
 use Rattle.tc_mat.specs.Held.{Held, IsHeld}
 use Rattle.tc_beh.specs.Places.{no_matrix}
@@ -9,6 +9,10 @@ pub record Extends (old new : Held) : Type 0 where
   pub size : new.size ≡ old.size
   pub more : List Matrix
   pub all : new.matrices ≡ old.matrices ++ more
+
+-- a number is that of a set that was held, and nothing changes, or that of the one set that comes on
+abbrev pub GrowsAt : Held → Held → ℕ → Type 0
+GrowsAt old new k = ((k < length old.matrices) × (new ≡ old)) ⊎ ((k ≡ length old.matrices) × (length new.matrices ≡ length old.matrices + 1))
 
 -- of so many numbers those that come on are each there, in the order of their numbers
 pub record AreFirstFound (old new : ℕ) (numbers : ℕ → ℕ) (count : ℕ) : Type 0 where

@@ -30,3 +30,4 @@ pub mod Links
 pub mod Named
 pub mod Opening
 pub mod Runs
+pub mod Refusals

@@ -8,6 +8,7 @@ use Rattle.tc_rows.specs.Bodies.{text_edges}
 use Rattle.tc_rows.specs.Rows.{HedgeRow, TreeRow}
 use Rattle.tc_rules.specs.KnownRules.{AreKnown}
 use Rattle.tc_beh.specs.Putting.{has}
+use Rattle.tc_beh.specs.Around.{AreAllTakers}
 use Rattle.tc_beh.specs.Bundles.{AreStepsOf}
 use Rattle.tc_beh.specs.Machines.{IsMachineOf}
 use Rattle.tc_beh.specs.Opening.{Remembers, AreLinked}
@@ -34,6 +35,7 @@ pub record IsWork (x : Triple) (m : Machine) (h : Held) (w : Work) : Type 0 wher
   pub links : AreLinked h w.sets.met
   pub known : AreKnown x.symbols x.rules w.known
   pub bundles : AreStepsOf m.input.auto w.bundles
+  pub takers : AreAllTakers m.input w.takers.items
   pub runs : AreRuns x w.runs.items
 
 pub record AreRowsOf (x : Triple) (r : Rows) : Type 0 where

@@ -1,6 +1,5 @@
 // Rows of trees with one more behind them.
 ghost use Rattle.std.specs.Prelude.{◌≡◌, ◌≢◌, ◌<◌, ◌≤◌, ◌+◌, ◌⊎◌, ◌↔◌, ◌==◌, ◌-◌, ℕ, List, length, get_or, IsTrue, Bool, true, false, cond, OnOk, OnErr};
-ghost use Rattle.std.specs.Result.{IsErrOf};
 ghost use Rattle.std.specs.List.{Contains};
 ghost use Rattle.tc_auto.specs.Stands.{states as states_of, patterns as patterns_of};
 ghost use Rattle.tc_rows.specs.Rows.{or_hit};
@@ -9,9 +8,10 @@ ghost use Rattle.tc_beh.specs.Held.{Extends, Grows, set_at, IsNew, AreProducts};
 ghost use Rattle.tc_beh.specs.Rooms.{flag_at, flags_in, output_at};
 ghost use Rattle.tc_beh.specs.RoomsOf.{IsRoomBeside, AreTexts};
 ghost use Rattle.tc_beh.specs.Appending.{Puts, IsBehind};
-ghost use Rattle.tc_beh.specs.Bundles.{AreStepsOf, AreWordsOf};
+ghost use Rattle.tc_beh.specs.Bundles.{AreStepsOf};
+ghost use Rattle.tc_beh.specs.Refusals.{MayRefuse};
 
-use crate::bundles::{Bundles, put_bundles, put_words};
+use crate::bundles::{Bundles, put_edges};
 use crate::held_sets::HeldSets;
 use crate::outputs::{RowFault, put_products};
 use crate::rooms::Room;
@@ -28,23 +28,33 @@ pub(crate) fn is_set(flags: &[u32], place: usize) -> bool
     }
 }
 
-/// Leaves the flags of the states to which an element leads some of those whose bits are set, by the element patterns that it
-/// matches. None is set yet.
-fn put_states_of_element(auto: &Auto<'_>, bundles: &Bundles, patterns: &[u32], out: &mut Room)
+/// Leaves the flags of the states to which an element leads some, by the element patterns that it matches. None is set yet.
+fn put_states_of_element(
+    auto: &Auto<'_>,
+    bundles: &mut Bundles,
+    hedge: &[u32],
+    patterns: &[u32],
+    out: &mut Room,
+)
     requires flags { out.old.flags ≡ states_of auto.now }
     requires none { (j : ℕ) → j < out.old.flags → flag_at out.old.numbers.items j ≡ 0 }
     requires patterns { length patterns.now ≡ patterns_of auto.now }
-    requires steps { AreStepsOf auto.now bundles.now }
+    requires steps { AreStepsOf auto.now bundles.old }
+    ensures steps { AreStepsOf auto.now bundles.new }
     ensures beside { IsRoomBeside out.old out.new }
     ensures others { (k : ℕ) → (k < 2) ⊎ (2 + out.old.flags ≤ k) → get_or out.new.numbers.items k 0
         ≡ get_or out.old.numbers.items k 0 }
-    ensures flags { (hedge : List ℕ) → AreWordsOf hedge bundles.now.words.bits.items
-        → Puts auto.now hedge false patterns.now out.new.numbers.items }
+    ensures flags { Puts auto.now hedge.now false patterns.now out.new.numbers.items }
 {
     for before in 0..auto.patterns() {
         if is_set(patterns, before as usize) {
-            let edges = bundles.patterns[before as usize].as_slice();
-            put_bundles(edges, bundles.words.bits.as_slice(), out);
+            put_edges(
+                auto.arrows(before + 1),
+                bundles.patterns[before as usize].as_slice(),
+                &mut bundles.words,
+                hedge,
+                out,
+            );
         }
     }
 }
@@ -68,11 +78,16 @@ fn put_states(
     ensures flags { Puts auto.now hedge.now is_text patterns.now out.new.numbers.items }
 {
     out.clear_flags();
-    put_words(&mut bundles.words, hedge);
     if is_text {
-        put_bundles(bundles.text.as_slice(), bundles.words.bits.as_slice(), out);
+        put_edges(
+            auto.text_arrows(),
+            bundles.text.as_slice(),
+            &mut bundles.words,
+            hedge,
+            out,
+        );
     } else {
-        put_states_of_element(auto, bundles, patterns, out);
+        put_states_of_element(auto, bundles, hedge, patterns, out);
     }
 }
 
@@ -179,11 +194,7 @@ pub(crate) fn put_append(
         × IsNew outputs.new
         (set_at outputs.old (output_at hedge.now.flags hedge.now.numbers.items i))
         (set_at outputs.old (output_at tree.now.flags tree.now.numbers.items i))) }
-    ensures fixed { is_fixed ≡ true → outputs.new ≡ outputs.old }
-    ensures full { IsErrOf result RowFault.TooManyOutputs → (is_fixed ≡ false)
-        × (length outputs.new.matrices ≡ 65536) }
-    ensures fresh { IsErrOf result RowFault.NewOutput → is_fixed ≡ true }
-    ensures memory { IsErrOf result RowFault.NoMemory → is_fixed ≡ false }
+    ensures refusals { MayRefuse is_fixed outputs.old outputs.new result }
 {
     out.set_heads(tree.is_text(), hedge.bears() || tree.bears());
     put_first_looks(hedge.looks(), tree.looks(), out);

@@ -3,8 +3,11 @@
 // that stand beside one another are the bits of a word, and the edges from them to one state are one bundle.
 ghost use Rattle.std.specs.Prelude.{◌≡◌, ◌<◌, ◌≤◌, ◌+◌, ◌*◌, ◌/◌, ◌^◌, ◌⊎◌, ◌↔◌, ℕ, length, get_or, true, IfOk, OnOk, IsTrue};
 ghost use Rattle.tc_auto.specs.Arrows.{AreWithin};
+ghost use Rattle.tc_auto.specs.Stands.{states as states_of};
+ghost use Rattle.tc_auto.specs.declared.auto.Auto.{Auto};
+ghost use Rattle.tc_model.specs.States as s;
 ghost use Rattle.tc_mat.specs.Matrix.{words_a_row};
-ghost use Rattle.tc_beh.specs.Bundles.{AreLow, AreOf, AreStepsOf, AreWordsOf, GainsEdge, HaveCommon, IsBundleOf, IsCurrent, IsWordOf, LeadsBy, PutsBy, widened};
+ghost use Rattle.tc_beh.specs.Bundles.{AreEdges, AreLow, AreOf, AreStepsOf, AreWordsOf, GainsEdge, HaveCommon, IsBundleOf, IsCurrent, IsWordOf, LeadsAlong, LeadsBy, PutsAfter, PutsBy, widened};
 ghost use Rattle.tc_beh.specs.RoomsOf.{IsRoomBeside};
 
 use crate::append::is_set;
@@ -205,7 +208,7 @@ fn keep_flags(words: &mut Words, flags: &[u32])
 
 /// Leaves flags as the bits of words, which are made anew only for other flags: the same list of trees is tried
 /// with many trees, one after the other.
-pub(crate) fn put_words(words: &mut Words, flags: &[u32])
+fn put_words(words: &mut Words, flags: &[u32])
     requires count { length words.old.bits.items ≤ 4294967296 }
     requires current { IsCurrent words.old }
     ensures count { length words.new.bits.items ≡ length words.old.bits.items }
@@ -230,7 +233,7 @@ fn have_common(first: u64, second: u64) -> bool
 }
 
 /// Sets the flags of the states to which edges lead from some of the states.
-pub(crate) fn put_bundles(bundles: &[Bundle], words: &[u64], out: &mut Room)
+fn put_bundles(bundles: &[Bundle], words: &[u64], out: &mut Room)
     requires low { AreLow out.old.flags bundles.now }
     requires words { words_a_row out.old.flags ≤ length words.now }
     ensures beside { IsRoomBeside out.old out.new }
@@ -244,4 +247,51 @@ pub(crate) fn put_bundles(bundles: &[Bundle], words: &[u64], out: &mut Room)
             out.set_flag(bundle.to as usize);
         }
     }
+}
+
+/// Sets the flags of the states to which edges lead from states with a flag, edge by edge.
+fn put_arrows(arrows: &[Arrow], hedge: &[u32], out: &mut Room)
+    requires within { AreWithin out.old.flags arrows.now }
+    ensures beside { IsRoomBeside out.old out.new }
+    ensures others { (k : ℕ) → (k < 2) ⊎ (2 + out.old.flags ≤ k) → get_or out.new.numbers.items k 0
+        ≡ get_or out.old.numbers.items k 0 }
+    ensures flags { PutsBy (LeadsAlong arrows.now hedge.now) out.old.numbers.items
+        out.new.numbers.items }
+{
+    for arrow in arrows {
+        if is_set(hedge, arrow.from as usize) {
+            out.set_flag(arrow.to as usize);
+        }
+    }
+}
+
+/// Sets the flags of the states to which edges lead from states with a flag. Bundles are used only where there are more edges than
+/// bundles and flags, since the flags are first made into words.
+pub(crate) fn put_edges(
+    arrows: &[Arrow],
+    bundles: &[Bundle],
+    words: &mut Words,
+    hedge: &[u32],
+    out: &mut Room,
+)
+    requires within { AreWithin out.old.flags arrows.now }
+    requires low { AreLow out.old.flags bundles.now }
+    requires words { words_a_row out.old.flags ≤ length words.old.bits.items }
+    requires count { length words.old.bits.items ≤ 4294967296 }
+    requires current { IsCurrent words.old }
+    ensures count { length words.new.bits.items ≡ length words.old.bits.items }
+    ensures current { IsCurrent words.new }
+    ensures beside { IsRoomBeside out.old out.new }
+    ensures others { (k : ℕ) → (k < 2) ⊎ (2 + out.old.flags ≤ k) → get_or out.new.numbers.items k 0
+        ≡ get_or out.old.numbers.items k 0 }
+    ensures flags { (a : Auto) (taken : s.Leaf) → out.old.flags ≡ states_of a
+        → AreEdges a taken arrows.now bundles.now
+        → PutsAfter a hedge.now taken out.old.numbers.items out.new.numbers.items }
+{
+    if arrows.len() <= bundles.len() + hedge.len() {
+        put_arrows(arrows, hedge, out);
+        return;
+    }
+    put_words(words, hedge);
+    put_bundles(bundles, words.bits.as_slice(), out);
 }

@@ -1,6 +1,5 @@
 // Rows of no tree.
 ghost use Rattle.std.specs.Prelude.{◌≡◌, ◌<◌, ◌≤◌, ◌+◌, ◌⊎◌, ℕ, length, get_or, true, false, OnOk, OnErr};
-ghost use Rattle.std.specs.Result.{IsErrOf};
 ghost use Rattle.tc_auto.specs.Stands.{states as states_of, patterns as patterns_of};
 ghost use Rattle.tc_mat.specs.Matrix.{IsMatrix, IsIdentity};
 ghost use Rattle.tc_mat.specs.Held.{AreMatrices};
@@ -8,6 +7,7 @@ ghost use Rattle.tc_beh.specs.Held.{Extends, Grows, set_at};
 ghost use Rattle.tc_beh.specs.Rooms.{flag_at, output_at};
 ghost use Rattle.tc_beh.specs.RoomsOf.{IsRoomBeside};
 ghost use Rattle.tc_beh.specs.Emptying.{PutsFirst, IsOfNoTree, IsNewIdentity};
+ghost use Rattle.tc_beh.specs.Refusals.{MayRefuse};
 
 use crate::held_sets::HeldSets;
 use crate::outputs::{RowFault, keep};
@@ -76,11 +76,7 @@ fn put_identities(
         (output_at out.old.flags out.new.numbers.items) out.old.entries) }
     ensures err { OnErr result
         ((outputs.new ≡ outputs.old) × (0 < out.old.entries) × IsNewIdentity outputs.new) }
-    ensures fixed { is_fixed ≡ true → outputs.new ≡ outputs.old }
-    ensures full { IsErrOf result RowFault.TooManyOutputs → (is_fixed ≡ false)
-        × (length outputs.new.matrices ≡ 65536) }
-    ensures fresh { IsErrOf result RowFault.NewOutput → is_fixed ≡ true }
-    ensures memory { IsErrOf result RowFault.NoMemory → is_fixed ≡ false }
+    ensures refusals { MayRefuse is_fixed outputs.old outputs.new result }
 {
     if out.entries == 0 {
         return Ok(());
@@ -112,11 +108,7 @@ pub(crate) fn put_empty(
         (output_at out.old.flags out.new.numbers.items) out.old.entries) }
     ensures err { OnErr result
         ((outputs.new ≡ outputs.old) × (0 < out.old.entries) × IsNewIdentity outputs.new) }
-    ensures fixed { is_fixed ≡ true → outputs.new ≡ outputs.old }
-    ensures full { IsErrOf result RowFault.TooManyOutputs → (is_fixed ≡ false)
-        × (length outputs.new.matrices ≡ 65536) }
-    ensures fresh { IsErrOf result RowFault.NewOutput → is_fixed ≡ true }
-    ensures memory { IsErrOf result RowFault.NoMemory → is_fixed ≡ false }
+    ensures refusals { MayRefuse is_fixed outputs.old outputs.new result }
 {
     out.set_heads(false, false);
     put_first_states(auto, out);

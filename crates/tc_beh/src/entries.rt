@@ -1,7 +1,6 @@
 // The entries of a node, worked out from what stands below it: for each ancestor state above it, and in it for each state of a
 // move, where what is put out on the node and below it leads the output.
 ghost use Rattle.std.specs.Prelude.{◌≡◌, ◌<◌, ◌≤◌, ◌+◌, ◌*◌, ◌⊎◌, ℕ, List, length, get_or, IfOk, Some, IfSome, OnOk, OnErr, true, false, All};
-ghost use Rattle.std.specs.Result.{IsErrOf};
 ghost use Rattle.tc_mat.specs.Matrix.{Matrix, IsMatrix, IsIdentity};
 ghost use Rattle.tc_hedge.specs.declared.hedge.Hedge.{Hedge};
 ghost use Rattle.tc_mat.specs.Held.{Held, IsHeld};
@@ -15,7 +14,7 @@ ghost use Rattle.tc_rules.specs.Tasks.{IsMoveAt};
 ghost use Rattle.tc_rows.specs.Triples.{Triple, predicates, moves as moves_of, outputs as outputs_of};
 ghost use Rattle.tc_beh.specs.Above.{letter_of, node_of};
 ghost use Rattle.tc_beh.specs.Entries.{IsNode, IsNewNothing, IsNewEntry, AreGrounds, AreSomeGrounds, AreCalledOn, IsUnder, IsMadeOf, IsEntryAt, IsBefore, Comes, ComesPartly};
-ghost use Rattle.tc_beh.specs.Held.{Extends, set_at};
+ghost use Rattle.tc_beh.specs.Held.{Extends, GrowsAt, set_at};
 ghost use Rattle.tc_beh.specs.Leads.{AreLeads};
 ghost use Rattle.tc_beh.specs.Opening.{AreLinked, IsBeside};
 ghost use Rattle.tc_beh.specs.Places.{kind_of, entries_by};
@@ -25,6 +24,7 @@ ghost use Rattle.tc_beh.specs.RoomsOf.{IsRoomBeside};
 ghost use Rattle.tc_beh.specs.RowsOf.{IsWork};
 ghost use Rattle.tc_beh.specs.Stands.{IsRulesIn};
 ghost use Rattle.tc_beh.specs.Templates.{IsAlike};
+ghost use Rattle.tc_beh.specs.Refusals.{MayRefuse};
 
 use crate::above::{Letter, put_entry_above};
 use crate::bodies::{At, Place, entry_place};
@@ -382,17 +382,10 @@ fn keep_open(outputs: &mut HeldSets, is_fixed: bool, sets: &mut OpenSets) -> Res
     ensures held { Extends outputs.old outputs.new }
     ensures number { IfOk result (λ k. (k < length outputs.new.matrices)
         × (set_at outputs.new k ≡ sets.old.out)) }
-    ensures grows { IfOk result (λ k.
-        ((k < length outputs.old.matrices) × (outputs.new ≡ outputs.old)) ⊎
-        ((k ≡ length outputs.old.matrices)
-        × (length outputs.new.matrices ≡ length outputs.old.matrices + 1))) }
+    ensures grows { IfOk result (GrowsAt outputs.old outputs.new) }
     ensures err { OnErr result ((outputs.new ≡ outputs.old)
         × ¬ IsHeld outputs.old sets.old.out) }
-    ensures fixed { is_fixed ≡ true → outputs.new ≡ outputs.old }
-    ensures full { IsErrOf result RowFault.TooManyOutputs → (is_fixed ≡ false)
-        × (length outputs.old.matrices ≡ 65536) }
-    ensures fresh { IsErrOf result RowFault.NewOutput → is_fixed ≡ true }
-    ensures memory { IsErrOf result RowFault.NoMemory → is_fixed ≡ false }
+    ensures refusals { MayRefuse is_fixed outputs.old outputs.new result }
 {
     if let Some(number) = sets.held() {
         return Ok(number);
@@ -417,16 +410,9 @@ fn keep_nothing(
     ensures same { (m : Hedge) → IsBeside m outputs.new sets.old sets.new }
     ensures held { Extends outputs.old outputs.new }
     ensures number { IfOk result (λ k. IsNothing outputs.new k) }
-    ensures grows { IfOk result (λ k.
-        ((k < length outputs.old.matrices) × (outputs.new ≡ outputs.old)) ⊎
-        ((k ≡ length outputs.old.matrices)
-        × (length outputs.new.matrices ≡ length outputs.old.matrices + 1))) }
+    ensures grows { IfOk result (GrowsAt outputs.old outputs.new) }
     ensures err { OnErr result ((outputs.new ≡ outputs.old) × IsNewNothing outputs.old) }
-    ensures fixed { is_fixed ≡ true → outputs.new ≡ outputs.old }
-    ensures full { IsErrOf result RowFault.TooManyOutputs → (is_fixed ≡ false)
-        × (length outputs.old.matrices ≡ 65536) }
-    ensures fresh { IsErrOf result RowFault.NewOutput → is_fixed ≡ true }
-    ensures memory { IsErrOf result RowFault.NoMemory → is_fixed ≡ false }
+    ensures refusals { MayRefuse is_fixed outputs.old outputs.new result }
 {
     sets.restart();
     let _out = sets.out();
@@ -462,10 +448,7 @@ fn keep_entry<'b>(
         → AreCalledOn x outputs.old node.entry spot.above work.new.named.items }
     ensures held { Extends outputs.old outputs.new }
     ensures low { IfOk result (λ k. k < length outputs.new.matrices) }
-    ensures grows { IfOk result (λ k.
-        ((k < length outputs.old.matrices) × (outputs.new ≡ outputs.old)) ⊎
-        ((k ≡ length outputs.old.matrices)
-        × (length outputs.new.matrices ≡ length outputs.old.matrices + 1))) }
+    ensures grows { IfOk result (GrowsAt outputs.old outputs.new) }
     ensures entry { IfOk result (λ k. (x : Triple)
         → AreGrounds x machine.now outputs.old work.old node.entry
         → IsUnder x (letter_of node.entry.letter) spot.ancestor spot.above
@@ -484,11 +467,7 @@ fn keep_entry<'b>(
         → IsNewEntry x
         (entries_by outputs.old.matrices node.entry.entries.now) node.entry outputs.old
         (spot.ancestor * moves_of x + spot.state))) }
-    ensures fixed { is_fixed ≡ true → outputs.new ≡ outputs.old }
-    ensures full { IsErrOf result RowFault.TooManyOutputs → (is_fixed ≡ false)
-        × (length outputs.old.matrices ≡ 65536) }
-    ensures fresh { IsErrOf result RowFault.NewOutput → is_fixed ≡ true }
-    ensures memory { IsErrOf result RowFault.NoMemory → is_fixed ≡ false }
+    ensures refusals { MayRefuse is_fixed outputs.old outputs.new result }
 {
     if let Some(number) = passed_on(machine, outputs, node, spot) {
         return Ok(number);
@@ -542,11 +521,7 @@ fn put_row<'b>(
         → Comes x es node.entry begun outputs.old (output_at out.old.flags out.old.numbers.items)
         (ancestor * moves_of x)
         → ComesPartly x es node.entry begun outputs.new) }
-    ensures fixed { is_fixed ≡ true → outputs.new ≡ outputs.old }
-    ensures full { IsErrOf result RowFault.TooManyOutputs → (is_fixed ≡ false)
-        × (length outputs.new.matrices ≡ 65536) }
-    ensures fresh { IsErrOf result RowFault.NewOutput → is_fixed ≡ true }
-    ensures memory { IsErrOf result RowFault.NoMemory → is_fixed ≡ false }
+    ensures refusals { MayRefuse is_fixed outputs.old outputs.new result }
 {
     let above = state_below(&machine.rules, node.letter, ancestor);
     let before = before_of(&machine.rules, node.letter, ancestor, above);
@@ -604,11 +579,7 @@ pub(crate) fn put_entries<'b>(
         → ComesPartly x
         (entries_by outputs.old.matrices node.entry.entries.now) node.entry outputs.old
         outputs.new) }
-    ensures fixed { is_fixed ≡ true → outputs.new ≡ outputs.old }
-    ensures full { IsErrOf result RowFault.TooManyOutputs → (is_fixed ≡ false)
-        × (length outputs.new.matrices ≡ 65536) }
-    ensures fresh { IsErrOf result RowFault.NewOutput → is_fixed ≡ true }
-    ensures memory { IsErrOf result RowFault.NoMemory → is_fixed ≡ false }
+    ensures refusals { MayRefuse is_fixed outputs.old outputs.new result }
 {
     for ancestor in 0..machine.rules.ancestors() {
         put_row(machine, outputs, is_fixed, work, node, ancestor, out)?;

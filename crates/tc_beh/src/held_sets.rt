@@ -154,33 +154,17 @@ impl HeldSets {
         held
     }
 
-    /// True only where a set is held, and another one is that of each state with itself.
-    fn is_beside_nothing(&self, one: u32, other: u32) -> bool
-        ensures { result ≡ true → (one < length self.now.matrices) × IsNothing self.now other
-            × AreMatrices self.now }
+    /// The number of the set of each state with itself, if it is known.
+    pub(crate) fn nothing(&self) -> Option<u32>
+        ensures { IfSome result (IsNothing self.now) }
     {
-        let Some(nothing) = self.nothing else {
-            return false;
-        };
-        if nothing != other {
-            return false;
-        }
-        if one >= self.pool.len() {
-            return false;
-        }
-        true
+        self.nothing
     }
 
-    /// The number of the product of two sets, if it is remembered, or one of them is that of each state with itself.
+    /// The number of the product of two sets, if it is remembered.
     pub(crate) fn product(&self, first: u32, second: u32) -> Option<u32>
         ensures { IfSome result (λ k. IsProduct self.now first second k) }
     {
-        if self.is_beside_nothing(first, second) {
-            return Some(first);
-        }
-        if self.is_beside_nothing(second, first) {
-            return Some(second);
-        }
         self.products.get(first, second)
     }
 

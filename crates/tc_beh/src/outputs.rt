@@ -1,11 +1,12 @@
 // The sets of pairs that stand in rows, each held once.
 ghost use Rattle.std.specs.Prelude.{◌≡◌, ◌<◌, ◌≤◌, ◌+◌, ◌++◌, ◌∷◌, ◌⊎◌, ℕ, [], length, slice_get, get_or, Some, IfSome, IfOk, OnOk, OnErr, true, false, IsTrue};
-ghost use Rattle.std.specs.Result.{IsErrOf};
 ghost use Rattle.tc_mat.specs.Matrix.{IsComposition};
 ghost use Rattle.tc_mat.specs.Held.{IsHeld};
-ghost use Rattle.tc_beh.specs.Held.{Extends, Grows, set_at, IsNew, AreProducts};
+ghost use Rattle.tc_beh.specs.Held.{Extends, Grows, GrowsAt, set_at, IsNew, AreProducts};
+ghost use Rattle.tc_beh.specs.Remembered.{IsNothing, IsProduct};
 ghost use Rattle.tc_beh.specs.Rooms.{output_at};
 ghost use Rattle.tc_beh.specs.RoomsOf.{IsRoomBeside};
+ghost use Rattle.tc_beh.specs.Refusals.{MayRefuse};
 
 use crate::held_sets::HeldSets;
 use crate::rooms::Room;
@@ -31,11 +32,7 @@ pub(crate) fn keep(outputs: &mut HeldSets, is_fixed: bool, set: &Mat) -> Result<
         ⊎ ((k ≡ length outputs.old.matrices)
         × (outputs.new ≡ record outputs.old { matrices = outputs.old.matrices ++ set.now ∷ [] }))) }
     ensures err { OnErr result ((outputs.new ≡ outputs.old) × ¬ IsHeld outputs.old set.now) }
-    ensures fixed { is_fixed ≡ true → outputs.new ≡ outputs.old }
-    ensures full { IsErrOf result RowFault.TooManyOutputs → (is_fixed ≡ false)
-        × (length outputs.old.matrices ≡ 65536) }
-    ensures fresh { IsErrOf result RowFault.NewOutput → is_fixed ≡ true }
-    ensures memory { IsErrOf result RowFault.NoMemory → is_fixed ≡ false }
+    ensures refusals { MayRefuse is_fixed outputs.old outputs.new result }
 {
     if let Some(id) = outputs.find(set) {
         return Ok(id.0);
@@ -50,15 +47,44 @@ pub(crate) fn keep(outputs: &mut HeldSets, is_fixed: bool, set: &Mat) -> Result<
     }
 }
 
+/// True only of a number that is known.
+fn is_known(known: Option<u32>, number: u32) -> bool
+    ensures { result ≡ true → known ≡ Some number }
+{
+    match known {
+        Some(same) => same == number,
+        None => false,
+    }
+}
+
+/// The number of the product of two sets, if it is known. Where one of them is that of each state with itself, it is the other.
+fn known_product(outputs: &HeldSets, nothing: Option<u32>, first: u32, second: u32) -> Option<u32>
+    requires nothing { IfSome nothing (IsNothing outputs.now) }
+    requires first { first < length outputs.now.matrices }
+    requires second { second < length outputs.now.matrices }
+    ensures { IfSome result (IsProduct outputs.now first second) }
+{
+    let _held = outputs.len();
+    if is_known(nothing, second) {
+        return Some(first);
+    }
+    if is_known(nothing, first) {
+        return Some(second);
+    }
+    outputs.product(first, second)
+}
+
 /// The number of the set that leads by one and then by another.
 fn keep_product(
     outputs: &mut HeldSets,
     is_fixed: bool,
     set: &mut Mat,
+    nothing: Option<u32>,
     first: u32,
     second: u32,
 ) -> Result<u32, RowFault>
     requires set { set.old.size ≡ outputs.old.size }
+    requires nothing { IfSome nothing (IsNothing outputs.old) }
     requires first { first < length outputs.old.matrices }
     requires second { second < length outputs.old.matrices }
     ensures set { set.new.size ≡ set.old.size }
@@ -67,19 +93,12 @@ fn keep_product(
         (λ k. (k < length outputs.new.matrices)
         × IsComposition (set_at outputs.old first) (set_at outputs.old second)
         (set_at outputs.new k)) }
-    ensures grows { IfOk result
-        (λ k. ((k < length outputs.old.matrices) × (outputs.new ≡ outputs.old))
-        ⊎ ((k ≡ length outputs.old.matrices)
-        × (length outputs.new.matrices ≡ length outputs.old.matrices + 1))) }
+    ensures grows { IfOk result (GrowsAt outputs.old outputs.new) }
     ensures err { OnErr result ((outputs.new ≡ outputs.old)
         × IsNew outputs.old (set_at outputs.old first) (set_at outputs.old second)) }
-    ensures fixed { is_fixed ≡ true → outputs.new ≡ outputs.old }
-    ensures full { IsErrOf result RowFault.TooManyOutputs → (is_fixed ≡ false)
-        × (length outputs.old.matrices ≡ 65536) }
-    ensures fresh { IsErrOf result RowFault.NewOutput → is_fixed ≡ true }
-    ensures memory { IsErrOf result RowFault.NoMemory → is_fixed ≡ false }
+    ensures refusals { MayRefuse is_fixed outputs.old outputs.new result }
 {
-    if let Some(number) = outputs.product(first, second) {
+    if let Some(number) = known_product(outputs, nothing, first, second) {
         return Ok(number);
     }
     Mat::mul_into(outputs.get(MatId(first)), outputs.get(MatId(second)), set);
@@ -124,14 +143,11 @@ pub(crate) fn put_products(
         ((i : ℕ) × (i < out.old.entries)
         × IsNew outputs.new (set_at outputs.old (get_or first.now i 0))
         (set_at outputs.old (get_or second.now i 0))) }
-    ensures fixed { is_fixed ≡ true → outputs.new ≡ outputs.old }
-    ensures full { IsErrOf result RowFault.TooManyOutputs → (is_fixed ≡ false)
-        × (length outputs.new.matrices ≡ 65536) }
-    ensures fresh { IsErrOf result RowFault.NewOutput → is_fixed ≡ true }
-    ensures memory { IsErrOf result RowFault.NoMemory → is_fixed ≡ false }
+    ensures refusals { MayRefuse is_fixed outputs.old outputs.new result }
 {
+    let nothing = outputs.nothing();
     for place in 0..out.entries {
-        let number = keep_product(outputs, is_fixed, set, first[place], second[place])?;
+        let number = keep_product(outputs, is_fixed, set, nothing, first[place], second[place])?;
         out.set_output(place, number);
     }
     Ok(())

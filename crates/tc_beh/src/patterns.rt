@@ -1,21 +1,21 @@
 // The element patterns of the input that an element around a list of trees matches.
-ghost use Rattle.std.specs.Prelude.{◌≡◌, ◌<◌, ◌≤◌, ◌+◌, ◌⊎◌, ◌↔◌, ℕ, List, Some, get_or, IsTrue};
+// Those whose classes hold its symbol are listed once for each symbol.
+ghost use Rattle.std.specs.Prelude.{◌≡◌, ◌<◌, ◌≤◌, ◌+◌, ◌⊎◌, ◌↔◌, ℕ, Some, get_or, IfOk, IsTrue};
 ghost use Rattle.std.specs.List.{Contains};
 ghost use Rattle.tc_auto.specs.Stands as a;
 ghost use Rattle.tc_auto.specs.Stands.{patterns as patterns_of};
-ghost use Rattle.tc_hedge.specs.Stands as h;
 ghost use Rattle.tc_model.specs.Grammars as g;
-ghost use Rattle.tc_model.specs.Names as n;
 ghost use Rattle.tc_model.specs.States as s;
-ghost use Rattle.tc_model.specs.Symbols.{Mention, symbol_of};
-ghost use Rattle.tc_beh.specs.Around.{IsTakenBy, IsAroundBy, PutsPatterns};
+ghost use Rattle.tc_beh.specs.Around.{IsTakenBy, AreTakers, AreAllTakers, PutsPatterns};
 ghost use Rattle.tc_beh.specs.Rooms.{flags_in};
 ghost use Rattle.tc_beh.specs.RoomsOf.{IsRoomBeside};
 
 use crate::append::{has_flag, is_set};
 use crate::rooms::Room;
+use std::alloc::Global;
 use tc_alpha::Sym;
 use tc_auto::Auto;
+use tc_base::NoMemory;
 use tc_hedge::Hedge;
 
 /// Whether the content of an element pattern accepts in a state that has a flag.
@@ -35,21 +35,45 @@ fn is_taken(auto: &Auto<'_>, number: u32, states: &[u32]) -> bool
     false
 }
 
-/// Whether the class of an element pattern holds a symbol, and its content accepts in a state that has a flag.
-fn is_around(input: &Hedge<'_>, number: u32, sym: Sym, states: &[u32]) -> bool
-    requires from_one { 1 ≤ number }
-    requires within { number ≤ patterns_of input.now.auto }
-    requires symbol { sym.0 < input.now.symbols }
-    ensures { (side : s.Side) (x : g.Grammar) (symbols : List Mention)
-        → h.Stands side x symbols input.now → (name : n.ExpandedName) → symbol_of symbols name
-        ≡ sym.0 → IsTrue result ↔ IsAroundBy side x name states.now number }
+/// The element patterns whose classes hold a symbol, by their numbers.
+fn takers_of(alloc: Global, input: &Hedge<'_>, sym: Sym) -> Result<Vec<u32>, NoMemory>
+    requires { sym.0 < input.now.symbols }
+    ensures { IfOk result (λ v. AreTakers input.now sym.0 (patterns_of input.now.auto) v.items) }
 {
-    input.allows(number, sym) && is_taken(input.auto(), number, states)
+    let mut takers = Vec::new(alloc);
+    for before in 0..input.auto().patterns() {
+        if input.allows(before + 1, sym) {
+            takers.push(before + 1)?;
+        }
+    }
+    Ok(takers)
+}
+
+/// Those of each symbol.
+///
+/// # Errors
+///
+/// There is no memory for them.
+pub(crate) fn all_takers(alloc: Global, input: &Hedge<'_>) -> Result<Vec<Vec<u32>>, NoMemory>
+    ensures { IfOk result (λ v. AreAllTakers input.now v.items) }
+{
+    let mut all = Vec::new(alloc);
+    for symbol in 0..input.symbols() {
+        all.push(takers_of(alloc, input, Sym(symbol))?)?;
+    }
+    Ok(all)
 }
 
 /// Leaves the flags of the element patterns that an element of a symbol matches, around a list of trees that leads to the states
 /// with a flag. Tells whether there is one.
-pub(crate) fn put_patterns(input: &Hedge<'_>, sym: Sym, states: &[u32], out: &mut Room) -> bool
+pub(crate) fn put_patterns(
+    input: &Hedge<'_>,
+    takers: &[Vec<u32>],
+    sym: Sym,
+    states: &[u32],
+    out: &mut Room,
+) -> bool
+    requires takers { AreAllTakers input.now takers.now }
     requires symbol { sym.0 < input.now.symbols }
     requires flags { out.old.flags ≡ patterns_of input.now.auto }
     ensures beside { IsRoomBeside out.old out.new }
@@ -59,9 +83,9 @@ pub(crate) fn put_patterns(input: &Hedge<'_>, sym: Sym, states: &[u32], out: &mu
     ensures some { IsTrue result ↔ Contains (flags_in out.new.flags out.new.numbers.items) 1 }
 {
     out.clear_flags();
-    for before in 0..input.auto().patterns() {
-        if is_around(input, before + 1, sym, states) {
-            out.set_flag(before as usize);
+    for number in takers[sym.0 as usize].as_slice() {
+        if is_taken(input.auto(), *number, states) {
+            out.set_flag(*number as usize - 1);
         }
     }
     has_flag(out.flags())

@@ -14,6 +14,7 @@ use crate::lists::{pairs_of, pool_of};
 use crate::machine::Machine;
 use crate::open_sets::OpenSets;
 use crate::outputs::RowFault;
+use crate::patterns::all_takers;
 use crate::rooms::{HRow, TRow};
 use crate::runs::Run;
 use std::alloc::Global;
@@ -49,6 +50,8 @@ pub(crate) struct Work<'b> {
     pub(crate) known: KnownRules,
     /// The edges of the contents of the input schema.
     pub(crate) bundles: Bundles,
+    /// The element patterns of the input schema whose classes hold a symbol, by symbol.
+    pub(crate) takers: Vec<Vec<u32>>,
     /// The runs of the bodies of rules, by rule, and whether they were read.
     pub(crate) runs: Vec<Option<Run<'b>>>,
     pub(crate) are_read: bool,
@@ -83,6 +86,7 @@ impl<'b> Work<'b> {
         let sets = OpenSets::of(alloc, &text, machine.depth)?;
         let known = KnownRules::new(&machine.rules)?;
         let bundles = Bundles::of(alloc, machine.input.auto())?;
+        let takers = all_takers(alloc, &machine.input)?;
         let runs = Vec::new(alloc);
         Ok(Work {
             alloc,
@@ -92,6 +96,7 @@ impl<'b> Work<'b> {
             sets,
             known,
             bundles,
+            takers,
             runs,
             are_read: false,
         })

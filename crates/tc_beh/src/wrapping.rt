@@ -1,6 +1,5 @@
 // Rows of texts, and of elements around trees.
 ghost use Rattle.std.specs.Prelude.{◌≡◌, ◌<◌, ◌≤◌, ◌+◌, ◌-◌, ◌⊎◌, ◌==◌, ℕ, [], length, get_or, OnOk, OnErr, true, false};
-ghost use Rattle.std.specs.Result.{IsErrOf};
 ghost use Rattle.tc_mat.specs.Held.{AreMatrices};
 ghost use Rattle.tc_rows.specs.Triples.{Triple};
 ghost use Rattle.tc_rows.specs.Arithmetic.{letter_around, letter_of_text};
@@ -12,6 +11,7 @@ ghost use Rattle.tc_beh.specs.Rooms.{tree_layout, output_at, outputs_in, looks_i
 ghost use Rattle.tc_beh.specs.RoomsOf.{IsRoomOf, IsRoomBeside};
 ghost use Rattle.tc_beh.specs.RowsOf.{IsWork};
 ghost use Rattle.tc_beh.specs.Stands.{IsRulesIn, AreRules};
+ghost use Rattle.tc_beh.specs.Refusals.{MayRefuse};
 
 use crate::above::Letter;
 use crate::entries::{Node, put_entries};
@@ -58,11 +58,7 @@ fn put_node<'b>(
         → ComesPartly x
         (entries_by outputs.old.matrices node.entry.entries.now) node.entry outputs.old
         outputs.new) }
-    ensures fixed { is_fixed ≡ true → outputs.new ≡ outputs.old }
-    ensures full { IsErrOf result RowFault.TooManyOutputs → (is_fixed ≡ false)
-        × (length outputs.new.matrices ≡ 65536) }
-    ensures fresh { IsErrOf result RowFault.NewOutput → is_fixed ≡ true }
-    ensures memory { IsErrOf result RowFault.NoMemory → is_fixed ≡ false }
+    ensures refusals { MayRefuse is_fixed outputs.old outputs.new result }
 {
     let letter = node.letter;
     put_looks(
@@ -247,7 +243,8 @@ impl<'m, 'b> Rows<'m, 'b> {
         ensures memory { IsErrOf result RowFault.NoMemory → self.old.is_fixed ≡ false }
     {
         let machine = self.machine;
-        if !put_patterns(&machine.input, sym, h.room.flags(), &mut out.room) {
+        let takers = self.work.takers.as_slice();
+        if !put_patterns(&machine.input, takers, sym, h.room.flags(), &mut out.room) {
             return Ok(false);
         }
         let letter = element_letter(machine, sym, &h.room);

@@ -2,7 +2,7 @@ use Rattle.std.proofs.Common.{arith, refl}
 use Rattle.tc_beh.specs.Rooms.{output_at}
 use Rattle.tc_beh.proofs.Holding.{one_kept, extends_self}
 use Rattle.tc_beh.proofs.Steps.{not_done}
-use Rattle.tc_beh.proofs.Refusing.{no_error, same_error}
+use Rattle.tc_beh.proofs.Refusing.{refuse_none, refuse_ok, refuse_err}
 use Rattle.tc_beh.proofs.empty.put_identities.Goals as goal
 
 pub returns-clause-grows : goal.returns-clause-grows
@@ -35,15 +35,6 @@ returns-then-out-eq0-clause-others c = λ k h. refl
 pub returns-then-out-eq0-clause-held : goal.returns-then-out-eq0-clause-held
 returns-then-out-eq0-clause-held c = extends_self c.args.outputs.now
 
-pub returns-then-out-eq0-clause-fixed : goal.returns-then-out-eq0-clause-fixed
-returns-then-out-eq0-clause-fixed c = λ e. refl
-
-pub returns-clause-fixed : goal.returns-clause-fixed
-returns-clause-fixed c = c.keep.ensures.fixed
-
-pub returns-in_err-number-clause-fixed : goal.returns-in_err-number-clause-fixed
-returns-in_err-number-clause-fixed c = c.keep.ensures.fixed
-
 pub returns-clause-beside : goal.returns-clause-beside
 returns-clause-beside c = c.put_one_output.ensures.beside
 
@@ -56,26 +47,11 @@ returns-in_err-number-clause-beside c = record { flags = refl; entries = refl; c
 pub returns-in_err-number-clause-others : goal.returns-in_err-number-clause-others
 returns-in_err-number-clause-others c = λ k h. refl
 
-pub returns-then-out-eq0-clause-full : goal.returns-then-out-eq0-clause-full
-returns-then-out-eq0-clause-full c = λ e. no_error _ _ e
+pub returns-then-out-eq0-clause-refusals : goal.returns-then-out-eq0-clause-refusals
+returns-then-out-eq0-clause-refusals c = refuse_none c.args.is_fixed c.args.outputs.now _
 
-pub returns-then-out-eq0-clause-fresh : goal.returns-then-out-eq0-clause-fresh
-returns-then-out-eq0-clause-fresh c = λ e. no_error _ _ e
+pub returns-clause-refusals : goal.returns-clause-refusals
+returns-clause-refusals c = refuse_ok c.args.is_fixed c.args.outputs.now c.keep.new.outputs c.keep.result _ c.keep.ensures.refusals
 
-pub returns-then-out-eq0-clause-memory : goal.returns-then-out-eq0-clause-memory
-returns-then-out-eq0-clause-memory c = λ e. no_error _ _ e
-
-pub returns-clause-full : goal.returns-clause-full
-returns-clause-full c = λ e. no_error _ _ e
-
-pub returns-clause-fresh : goal.returns-clause-fresh
-returns-clause-fresh c = λ e. no_error _ _ e
-
-pub returns-clause-memory : goal.returns-clause-memory
-returns-clause-memory c = λ e. no_error _ _ e
-
-pub returns-in_err-number-clause-fresh : goal.returns-in_err-number-clause-fresh
-returns-in_err-number-clause-fresh c = λ e. c.keep.ensures.fresh (same_error c.from_residual.result c.keep.result _ _ c.from_residual.ensures.1 c.in_err-number.was e)
-
-pub returns-in_err-number-clause-memory : goal.returns-in_err-number-clause-memory
-returns-in_err-number-clause-memory c = λ e. c.keep.ensures.memory (same_error c.from_residual.result c.keep.result _ _ c.from_residual.ensures.1 c.in_err-number.was e)
+pub returns-in_err-number-clause-refusals : goal.returns-in_err-number-clause-refusals
+returns-in_err-number-clause-refusals c = refuse_err c.args.is_fixed c.args.outputs.now c.keep.new.outputs c.from_residual.result c.keep.result _ c.from_residual.ensures.1 c.in_err-number.was c.keep.ensures.refusals

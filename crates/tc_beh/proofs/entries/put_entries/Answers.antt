@@ -9,7 +9,7 @@ use Rattle.tc_beh.specs.Rooms.{output_at}
 use Rattle.tc_beh.proofs.Holding.{extends_self, extends_then, on_err}
 use Rattle.tc_beh.proofs.Coming.{grounds_kept, read_kept, comes_none, comes_same, next_row}
 use Rattle.tc_beh.proofs.Steps.{not_done}
-use Rattle.tc_beh.proofs.Refusing.{no_error, same_error}
+use Rattle.tc_beh.proofs.Refusing.{no_error, refuse_err, refuse_then}
 use Rattle.tc_beh.proofs.entries.put_entries.Goals as goal
 
 pub loop-ancestor-init : goal.loop-ancestor-init
@@ -70,9 +70,6 @@ returns-in_err-put_row-clause-others c = λ k h.
 pub returns-in_err-put_row-clause-held : goal.returns-in_err-put_row-clause-held
 returns-in_err-put_row-clause-held c = extends_then c.args.outputs.now c.loop-ancestor.outputs c.put_row.new.outputs c.loop-ancestor.invariant.held c.put_row.ensures.held
 
-pub returns-in_err-put_row-clause-fixed : goal.returns-in_err-put_row-clause-fixed
-returns-in_err-put_row-clause-fixed c = λ e. c.put_row.ensures.fixed e ∙ c.loop-ancestor.invariant.fixed e
-
 pub returns-in_err-put_row-clause-partly : goal.returns-in_err-put_row-clause-partly
 returns-in_err-put_row-clause-partly c = on_err c.from_residual.result _ (λ x ok.
     let m = c.args.machine.now in
@@ -108,7 +105,7 @@ loop-ancestor-preserved c =
           let more = c.in_ok-put_row.ensures.comes x es a now (sym (read_kept x m a b so_far.held c.args.work.now n ok)) begun in
           comes_same x es n a c.put_row.new.outputs (output_at c.args.out.now.flags c.put_row.new.out.numbers.items) (q * moves x + moves x) ((q + 1) * moves x) (next_row q (moves x))
           (subst (λ f. Comes x es n a c.put_row.new.outputs (output_at f c.put_row.new.out.numbers.items) (q * moves x + moves x)) flags more);
-      fixed = λ e. put.fixed e ∙ so_far.fixed e;
+      fixed = λ e. put.refusals.fixed e ∙ so_far.fixed e;
     }
 
 pub returns-clause-comes : goal.returns-clause-comes
@@ -150,26 +147,13 @@ returns-clause-others c = c.loop-ancestor.invariant.others
 pub returns-clause-held : goal.returns-clause-held
 returns-clause-held c = c.loop-ancestor.invariant.held
 
-pub returns-clause-fixed : goal.returns-clause-fixed
-returns-clause-fixed c = c.loop-ancestor.invariant.fixed
-
 pub returns-clause-partly : goal.returns-clause-partly
 returns-clause-partly c = tt
 
-pub returns-clause-full : goal.returns-clause-full
-returns-clause-full c = λ e. no_error _ _ e
+pub returns-clause-refusals : goal.returns-clause-refusals
+returns-clause-refusals c = record { fixed = c.loop-ancestor.invariant.fixed; full = λ e. no_error _ _ e; fresh = λ e. no_error _ _ e; memory = λ e. no_error _ _ e }
 
-pub returns-clause-fresh : goal.returns-clause-fresh
-returns-clause-fresh c = λ e. no_error _ _ e
-
-pub returns-clause-memory : goal.returns-clause-memory
-returns-clause-memory c = λ e. no_error _ _ e
-
-pub returns-in_err-put_row-clause-full : goal.returns-in_err-put_row-clause-full
-returns-in_err-put_row-clause-full c = λ e. c.put_row.ensures.full (same_error c.from_residual.result c.put_row.result _ _ c.from_residual.ensures.1 c.in_err-put_row.was e)
-
-pub returns-in_err-put_row-clause-fresh : goal.returns-in_err-put_row-clause-fresh
-returns-in_err-put_row-clause-fresh c = λ e. c.put_row.ensures.fresh (same_error c.from_residual.result c.put_row.result _ _ c.from_residual.ensures.1 c.in_err-put_row.was e)
-
-pub returns-in_err-put_row-clause-memory : goal.returns-in_err-put_row-clause-memory
-returns-in_err-put_row-clause-memory c = λ e. c.put_row.ensures.memory (same_error c.from_residual.result c.put_row.result _ _ c.from_residual.ensures.1 c.in_err-put_row.was e)
+pub returns-in_err-put_row-clause-refusals : goal.returns-in_err-put_row-clause-refusals
+returns-in_err-put_row-clause-refusals c =
+    refuse_then c.args.is_fixed c.args.outputs.now c.loop-ancestor.outputs c.put_row.new.outputs c.from_residual.result c.loop-ancestor.invariant.fixed
+    (refuse_err c.args.is_fixed c.loop-ancestor.outputs c.put_row.new.outputs c.from_residual.result c.put_row.result _ c.from_residual.ensures.1 c.in_err-put_row.was c.put_row.ensures.refusals)

@@ -14,7 +14,7 @@ use Rattle.tc_beh.proofs.Before.{before_row}
 use Rattle.tc_beh.proofs.Passing.{if_some_map}
 use Rattle.tc_beh.proofs.Coming.{grounds_kept, read_kept, called_kept, called_back, row_within, comes_step, comes_partly, comes_same}
 use Rattle.tc_beh.proofs.Steps.{not_done}
-use Rattle.tc_beh.proofs.Refusing.{no_error, same_error}
+use Rattle.tc_beh.proofs.Refusing.{no_error, refuse_err, refuse_then}
 use Rattle.tc_beh.proofs.Remembering.{nothing_on}
 use Rattle.tc_beh.proofs.entries.put_row.Goals as goal
 
@@ -147,7 +147,7 @@ loop-state-preserved c =
           let here : after i ≡ number = subst (λ j. get_or c.set_output.new.self.numbers.items j 0 ≡ number) at put.output in
           comes_same x es n begun new after (i + 1) (q * moves x + (k + 1)) (omega arith)
           (comes_step x es n begun b new before after i number (set_at new number) (so_far.comes x es begun ok e so) stays here more (c.in_ok-number.ensures.low, refl) c.in_ok-number.ensures.grows right);
-      fixed = λ e. c.in_ok-number.ensures.fixed e ∙ so_far.fixed e;
+      fixed = λ e. c.in_ok-number.ensures.refusals.fixed e ∙ so_far.fixed e;
     }
 
 pub returns-clause-comes : goal.returns-clause-comes
@@ -186,9 +186,6 @@ returns-clause-others c = c.loop-state.invariant.others
 pub returns-clause-held : goal.returns-clause-held
 returns-clause-held c = c.loop-state.invariant.held
 
-pub returns-clause-fixed : goal.returns-clause-fixed
-returns-clause-fixed c = c.loop-state.invariant.fixed
-
 pub returns-in_err-number-clause-beside : goal.returns-in_err-number-clause-beside
 returns-in_err-number-clause-beside c = c.loop-state.invariant.beside
 
@@ -198,25 +195,10 @@ returns-in_err-number-clause-others c = c.loop-state.invariant.others
 pub returns-clause-partly : goal.returns-clause-partly
 returns-clause-partly c = tt
 
-pub returns-in_err-number-clause-fixed : goal.returns-in_err-number-clause-fixed
-returns-in_err-number-clause-fixed c = λ e. c.keep_entry.ensures.fixed e ∙ c.loop-state.invariant.fixed e
+pub returns-clause-refusals : goal.returns-clause-refusals
+returns-clause-refusals c = record { fixed = c.loop-state.invariant.fixed; full = λ e. no_error _ _ e; fresh = λ e. no_error _ _ e; memory = λ e. no_error _ _ e }
 
-pub returns-clause-full : goal.returns-clause-full
-returns-clause-full c = λ e. no_error _ _ e
-
-pub returns-clause-fresh : goal.returns-clause-fresh
-returns-clause-fresh c = λ e. no_error _ _ e
-
-pub returns-clause-memory : goal.returns-clause-memory
-returns-clause-memory c = λ e. no_error _ _ e
-
-pub returns-in_err-number-clause-full : goal.returns-in_err-number-clause-full
-returns-in_err-number-clause-full c = λ e.
-    let (grows, many) = c.keep_entry.ensures.full (same_error c.from_residual.result c.keep_entry.result _ _ c.from_residual.ensures.1 c.in_err-number.was e) in
-    (grows, ap (λ (h : Held). length h.matrices) c.in_err-number.ensures.err.0 ∙ many)
-
-pub returns-in_err-number-clause-fresh : goal.returns-in_err-number-clause-fresh
-returns-in_err-number-clause-fresh c = λ e. c.keep_entry.ensures.fresh (same_error c.from_residual.result c.keep_entry.result _ _ c.from_residual.ensures.1 c.in_err-number.was e)
-
-pub returns-in_err-number-clause-memory : goal.returns-in_err-number-clause-memory
-returns-in_err-number-clause-memory c = λ e. c.keep_entry.ensures.memory (same_error c.from_residual.result c.keep_entry.result _ _ c.from_residual.ensures.1 c.in_err-number.was e)
+pub returns-in_err-number-clause-refusals : goal.returns-in_err-number-clause-refusals
+returns-in_err-number-clause-refusals c =
+    refuse_then c.args.is_fixed c.args.outputs.now c.loop-state.outputs c.keep_entry.new.outputs c.from_residual.result c.loop-state.invariant.fixed
+    (refuse_err c.args.is_fixed c.loop-state.outputs c.keep_entry.new.outputs c.from_residual.result c.keep_entry.result _ c.from_residual.ensures.1 c.in_err-number.was c.keep_entry.ensures.refusals)

@@ -3,11 +3,12 @@ use Rattle.std.proofs.lemmas.Option.{get_or_from_slice_get}
 use Rattle.tc_mat.specs.Held.{Held}
 use Rattle.tc_mat.specs.Matrix.{IsComposition}
 use Rattle.tc_beh.specs.Places.{no_matrix}
-use Rattle.tc_beh.specs.Held.{Extends, set_at}
+use Rattle.tc_beh.specs.Held.{Extends, GrowsAt, set_at}
 use Rattle.tc_beh.proofs.Holding.{extends_kept, set_kept, grows_kept, on_err, pairs_kept, new_kept, extends_self}
 use Rattle.tc_beh.proofs.Remembering.{product_of}
 use Rattle.tc_beh.proofs.Steps.{no_value}
-use Rattle.tc_beh.proofs.Refusing.{no_error, same_error}
+use Rattle.tc_beh.specs.Refusals.{MayRefuse}
+use Rattle.tc_beh.proofs.Refusing.{refuse_none, refuse_ok, refuse_err}
 use Rattle.tc_beh.proofs.outputs.keep_product.Goals as goal
 
 pub remember-requires : goal.remember-requires
@@ -40,7 +41,7 @@ pub returns-clause-grows : goal.returns-clause-grows
 returns-clause-grows c =
     let old = c.args.outputs.now in
     let k = c.in_ok-number.number in
-    subst (λ (h : Held). ((k < length old.matrices) × (h ≡ old)) ⊎ ((k ≡ length old.matrices) × (length h.matrices ≡ length old.matrices + 1))) (sym c.remember.ensures)
+    subst (λ (h : Held). GrowsAt old h k) (sym c.remember.ensures)
     (grows_kept old c.keep.new.outputs c.mul_into.new.out (Ok k) c.in_ok-number.ensures.number c.in_ok-number.ensures.grows)
 
 pub returns-in_err-number-clause-held : goal.returns-in_err-number-clause-held
@@ -71,32 +72,12 @@ returns-in-Some-clause-set c = refl
 pub returns-in-Some-clause-held : goal.returns-in-Some-clause-held
 returns-in-Some-clause-held c = extends_self c.args.outputs.now
 
-pub returns-in-Some-clause-fixed : goal.returns-in-Some-clause-fixed
-returns-in-Some-clause-fixed c = λ e. refl
+pub returns-in-Some-clause-refusals : goal.returns-in-Some-clause-refusals
+returns-in-Some-clause-refusals c = refuse_none c.args.is_fixed c.args.outputs.now c.in-Some.number
 
-pub returns-in-Some-clause-full : goal.returns-in-Some-clause-full
-returns-in-Some-clause-full c = λ e. no_error _ _ e
+pub returns-clause-refusals : goal.returns-clause-refusals
+returns-clause-refusals c =
+    refuse_ok c.args.is_fixed c.args.outputs.now c.remember.new.self c.keep.result c.in_ok-number.number (subst (λ h. MayRefuse c.args.is_fixed c.args.outputs.now h c.keep.result) (sym c.remember.ensures) c.keep.ensures.refusals)
 
-pub returns-in-Some-clause-fresh : goal.returns-in-Some-clause-fresh
-returns-in-Some-clause-fresh c = λ e. no_error _ _ e
-
-pub returns-in-Some-clause-memory : goal.returns-in-Some-clause-memory
-returns-in-Some-clause-memory c = λ e. no_error _ _ e
-
-pub returns-clause-full : goal.returns-clause-full
-returns-clause-full c = λ e. no_error _ _ e
-
-pub returns-clause-fresh : goal.returns-clause-fresh
-returns-clause-fresh c = λ e. no_error _ _ e
-
-pub returns-clause-memory : goal.returns-clause-memory
-returns-clause-memory c = λ e. no_error _ _ e
-
-pub returns-in_err-number-clause-full : goal.returns-in_err-number-clause-full
-returns-in_err-number-clause-full c = λ e. c.keep.ensures.full (same_error c.from_residual.result c.keep.result _ _ c.from_residual.ensures.1 c.in_err-number.was e)
-
-pub returns-in_err-number-clause-fresh : goal.returns-in_err-number-clause-fresh
-returns-in_err-number-clause-fresh c = λ e. c.keep.ensures.fresh (same_error c.from_residual.result c.keep.result _ _ c.from_residual.ensures.1 c.in_err-number.was e)
-
-pub returns-in_err-number-clause-memory : goal.returns-in_err-number-clause-memory
-returns-in_err-number-clause-memory c = λ e. c.keep.ensures.memory (same_error c.from_residual.result c.keep.result _ _ c.from_residual.ensures.1 c.in_err-number.was e)
+pub returns-in_err-number-clause-refusals : goal.returns-in_err-number-clause-refusals
+returns-in_err-number-clause-refusals c = refuse_err c.args.is_fixed c.args.outputs.now c.keep.new.outputs c.from_residual.result c.keep.result _ c.from_residual.ensures.1 c.in_err-number.was c.keep.ensures.refusals

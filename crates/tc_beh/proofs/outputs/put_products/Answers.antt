@@ -3,8 +3,10 @@ use Rattle.tc_mat.specs.Held.{Held}
 use Rattle.tc_beh.specs.Rooms.{output_at}
 use Rattle.tc_beh.specs.Held.{set_at, IsNew, AreProducts}
 use Rattle.tc_beh.proofs.Holding.{extends_count, grows_step, on_err, new_before, pairs_step, products_found}
+use Rattle.tc_beh.proofs.Passing.{if_some_map}
+use Rattle.tc_beh.proofs.Remembering.{nothing_on}
 use Rattle.tc_beh.proofs.Steps.{not_done}
-use Rattle.tc_beh.proofs.Refusing.{no_error, same_error}
+use Rattle.tc_beh.proofs.Refusing.{no_error, refuse_err, refuse_then}
 use Rattle.tc_beh.proofs.outputs.put_products.Goals as goal
 
 pub returns-in_err-number-clause-err : goal.returns-in_err-number-clause-err
@@ -60,7 +62,7 @@ loop-place-preserved c =
       others = λ n h. put.others n (λ e. elim h [ inl l ↦ absurd (omega (arith, e, l, flags)) | inr l ↦ absurd (omega (arith, e, l, flags, low)) ]) ∙ so_far.others n h;
       grows = grows_step old mid new before after i k so_far.grows stays here now.held now.pairs.0 now.grows;
       pairs = pairs_step old mid new before after i k (λ n. get_or c.args.first.now n 0) (λ n. get_or c.args.second.now n 0) so_far.grows stays here now.held (c.requires.first i first_low) (c.requires.second i second_low) now.pairs.1 so_far.pairs;
-      fixed = λ e. now.fixed e ∙ so_far.fixed e;
+      fixed = λ e. now.refusals.fixed e ∙ so_far.fixed e;
     }
 
 pub keep_product-requires-clause-first : goal.keep_product-requires-clause-first
@@ -77,6 +79,12 @@ keep_product-requires-clause-second c =
     let more = extends_count c.args.outputs.now c.loop-place.outputs c.loop-place.invariant.grows.held in
     omega (arith, low, more)
 
+pub keep_product-requires-clause-nothing : goal.keep_product-requires-clause-nothing
+keep_product-requires-clause-nothing c =
+    let old = c.args.outputs.now in
+    let mid = c.loop-place.outputs in
+    if_some_map c.nothing-nothing.result _ _ (λ k is. nothing_on old mid c.loop-place.invariant.grows.held k is) c.nothing-nothing.ensures
+
 pub keep_product-requires-clause-set : goal.keep_product-requires-clause-set
 keep_product-requires-clause-set c = c.loop-place.invariant.set ∙ (c.requires.set ∙ sym c.loop-place.invariant.grows.held.size)
 
@@ -92,17 +100,10 @@ returns-clause-partly c = tt
 pub returns-clause-err : goal.returns-clause-err
 returns-clause-err c = tt
 
-pub returns-clause-full : goal.returns-clause-full
-returns-clause-full c = λ e. no_error _ _ e
+pub returns-clause-refusals : goal.returns-clause-refusals
+returns-clause-refusals c = record { fixed = c.loop-place.invariant.fixed; full = λ e. no_error _ _ e; fresh = λ e. no_error _ _ e; memory = λ e. no_error _ _ e }
 
-pub returns-clause-fresh : goal.returns-clause-fresh
-returns-clause-fresh c = λ e. no_error _ _ e
-
-pub returns-clause-memory : goal.returns-clause-memory
-returns-clause-memory c = λ e. no_error _ _ e
-
-pub returns-in_err-number-clause-fresh : goal.returns-in_err-number-clause-fresh
-returns-in_err-number-clause-fresh c = λ e. c.keep_product.ensures.fresh (same_error c.from_residual.result c.keep_product.result _ _ c.from_residual.ensures.1 c.in_err-number.was e)
-
-pub returns-in_err-number-clause-memory : goal.returns-in_err-number-clause-memory
-returns-in_err-number-clause-memory c = λ e. c.keep_product.ensures.memory (same_error c.from_residual.result c.keep_product.result _ _ c.from_residual.ensures.1 c.in_err-number.was e)
+pub returns-in_err-number-clause-refusals : goal.returns-in_err-number-clause-refusals
+returns-in_err-number-clause-refusals c =
+    refuse_then c.args.is_fixed c.args.outputs.now c.loop-place.outputs c.keep_product.new.outputs c.from_residual.result c.loop-place.invariant.fixed
+    (refuse_err c.args.is_fixed c.loop-place.outputs c.keep_product.new.outputs c.from_residual.result c.keep_product.result _ c.from_residual.ensures.1 c.in_err-number.was c.keep_product.ensures.refusals)

@@ -58,18 +58,6 @@ returns-clause-held c = c.put_entries-put.ensures.held
 pub returns-clause-partly : goal.returns-clause-partly
 returns-clause-partly c = c.put_entries-put.ensures.partly
 
-pub returns-clause-fixed : goal.returns-clause-fixed
-returns-clause-fixed c = c.put_entries-put.ensures.fixed
-
-pub returns-clause-full : goal.returns-clause-full
-returns-clause-full c = c.put_entries-put.ensures.full
-
-pub returns-clause-fresh : goal.returns-clause-fresh
-returns-clause-fresh c = c.put_entries-put.ensures.fresh
-
-pub returns-clause-memory : goal.returns-clause-memory
-returns-clause-memory c = c.put_entries-put.ensures.memory
-
 pub returns-clause-sets : goal.returns-clause-sets
 returns-clause-sets c = c.len-held.ensures.matrices
 
@@ -81,3 +69,6 @@ returns-clause-grows c = on_ok_map c.put_entries-put.result _ _ (λ comes.
     let us = c.put_entries-put.new.out.numbers.items in
     let beside = c.put_looks.ensures.beside in
     subst (λ n. Grows old new (output_at c.args.out.now.flags us) n) beside.entries (subst (λ f. Grows old new (output_at f us) c.put_looks.new.out.entries) beside.flags (comes x ok).grows)) c.put_entries-put.ensures.comes
+
+pub returns-clause-refusals : goal.returns-clause-refusals
+returns-clause-refusals c = c.put_entries-put.ensures.refusals

@@ -5,7 +5,7 @@ use Rattle.tc_auto.specs.Arrows.{AreWithin}
 use Rattle.tc_auto.specs.Stands.{states}
 use Rattle.tc_mat.specs.Matrix.{words_a_row}
 use Rattle.tc_beh.specs.Bundles.{AreBundled, AreLow}
-use Rattle.tc_beh.proofs.Bundling.{are_bundled, more_patterns, no_element, one_longer}
+use Rattle.tc_beh.proofs.Bundling.{are_bundled, each_pushed, no_element, one_longer}
 use Rattle.tc_beh.proofs.bundles.Bundles.of.Goals as goal
 
 pub loop-before-init : goal.loop-before-init
@@ -33,7 +33,7 @@ loop-before-preserved c =
     record {
       begun = c.bundled-in-loop-before.ensures.begun ∙ v.begun;
       count = one_longer rows c.push.new.self.items row pushed ∙ ap (λ n. n + 1) v.count;
-      patterns = more_patterns a rows c.push.new.self.items row pushed v.patterns (subst (λ n. AreBundled a (s.ref_leaf (n + 1)) row.items) (sym v.count) are);
+      patterns = each_pushed rows c.push.new.self.items row pushed (λ k w. AreBundled a (s.ref_leaf (k + 1)) w.items) v.patterns (subst (λ n. AreBundled a (s.ref_leaf (n + 1)) row.items) (sym v.count) are);
     }
 
 pub returns : goal.returns

@@ -207,10 +207,10 @@ pub returns-then-not-put_kind-clause-fixed : goal.returns-then-not-put_kind-clau
 returns-then-not-put_kind-clause-fixed c = λ e. refl
 
 pub returns-in_err-put_append-clause-fixed : goal.returns-in_err-put_append-clause-fixed
-returns-in_err-put_append-clause-fixed c = c.put_append.ensures.fixed
+returns-in_err-put_append-clause-fixed c = c.put_append.ensures.refusals.fixed
 
 pub returns-clause-fixed : goal.returns-clause-fixed
-returns-clause-fixed c = c.put_append.ensures.fixed
+returns-clause-fixed c = c.put_append.ensures.refusals.fixed
 
 pub returns-then-not-put_kind-clause-full : goal.returns-then-not-put_kind-clause-full
 returns-then-not-put_kind-clause-full c = λ e. no_error _ _ e
@@ -219,7 +219,7 @@ pub returns-clause-full : goal.returns-clause-full
 returns-clause-full c = λ e. no_error _ _ e
 
 pub returns-in_err-put_append-clause-full : goal.returns-in_err-put_append-clause-full
-returns-in_err-put_append-clause-full c = λ e. c.put_append.ensures.full (same_error c.from_residual.result c.put_append.result _ _ c.from_residual.ensures.1 c.in_err-put_append.was e)
+returns-in_err-put_append-clause-full c = λ e. c.put_append.ensures.refusals.full (same_error c.from_residual.result c.put_append.result _ _ c.from_residual.ensures.1 c.in_err-put_append.was e)
 
 pub returns-then-not-put_kind-clause-fresh : goal.returns-then-not-put_kind-clause-fresh
 returns-then-not-put_kind-clause-fresh c = λ e. no_error _ _ e
@@ -228,7 +228,7 @@ pub returns-clause-fresh : goal.returns-clause-fresh
 returns-clause-fresh c = λ e. no_error _ _ e
 
 pub returns-in_err-put_append-clause-fresh : goal.returns-in_err-put_append-clause-fresh
-returns-in_err-put_append-clause-fresh c = λ e. c.put_append.ensures.fresh (same_error c.from_residual.result c.put_append.result _ _ c.from_residual.ensures.1 c.in_err-put_append.was e)
+returns-in_err-put_append-clause-fresh c = λ e. c.put_append.ensures.refusals.fresh (same_error c.from_residual.result c.put_append.result _ _ c.from_residual.ensures.1 c.in_err-put_append.was e)
 
 pub returns-then-not-put_kind-clause-memory : goal.returns-then-not-put_kind-clause-memory
 returns-then-not-put_kind-clause-memory c = λ e. no_error _ _ e
@@ -237,7 +237,7 @@ pub returns-clause-memory : goal.returns-clause-memory
 returns-clause-memory c = λ e. no_error _ _ e
 
 pub returns-in_err-put_append-clause-memory : goal.returns-in_err-put_append-clause-memory
-returns-in_err-put_append-clause-memory c = λ e. c.put_append.ensures.memory (same_error c.from_residual.result c.put_append.result _ _ c.from_residual.ensures.1 c.in_err-put_append.was e)
+returns-in_err-put_append-clause-memory c = λ e. c.put_append.ensures.refusals.memory (same_error c.from_residual.result c.put_append.result _ _ c.from_residual.ensures.1 c.in_err-put_append.was e)
 
 pub returns-then-not-put_kind-clause-live : goal.returns-then-not-put_kind-clause-live
 returns-then-not-put_kind-clause-live c = λ e. not_true e

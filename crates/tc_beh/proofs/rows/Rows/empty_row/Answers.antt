@@ -70,13 +70,13 @@ returns-clause-grows c =
     c.put_empty.ensures.grows
 
 pub returns-clause-fixed : goal.returns-clause-fixed
-returns-clause-fixed c = c.put_empty.ensures.fixed
+returns-clause-fixed c = c.put_empty.ensures.refusals.fixed
 
 pub returns-clause-full : goal.returns-clause-full
-returns-clause-full c = c.put_empty.ensures.full
+returns-clause-full c = c.put_empty.ensures.refusals.full
 
 pub returns-clause-fresh : goal.returns-clause-fresh
-returns-clause-fresh c = c.put_empty.ensures.fresh
+returns-clause-fresh c = c.put_empty.ensures.refusals.fresh
 
 pub returns-clause-memory : goal.returns-clause-memory
-returns-clause-memory c = c.put_empty.ensures.memory
+returns-clause-memory c = c.put_empty.ensures.refusals.memory

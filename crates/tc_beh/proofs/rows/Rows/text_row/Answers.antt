@@ -151,10 +151,10 @@ pub returns-then-not-has_text-clause-fixed : goal.returns-then-not-has_text-clau
 returns-then-not-has_text-clause-fixed c = λ e. refl
 
 pub returns-in_err-put_node-clause-fixed : goal.returns-in_err-put_node-clause-fixed
-returns-in_err-put_node-clause-fixed c = c.put_node.ensures.fixed
+returns-in_err-put_node-clause-fixed c = c.put_node.ensures.refusals.fixed
 
 pub returns-clause-fixed : goal.returns-clause-fixed
-returns-clause-fixed c = c.put_node.ensures.fixed
+returns-clause-fixed c = c.put_node.ensures.refusals.fixed
 
 pub returns-then-not-has_text-clause-full : goal.returns-then-not-has_text-clause-full
 returns-then-not-has_text-clause-full c = λ e. no_error _ _ e
@@ -163,7 +163,7 @@ pub returns-clause-full : goal.returns-clause-full
 returns-clause-full c = λ e. no_error _ _ e
 
 pub returns-in_err-put_node-clause-full : goal.returns-in_err-put_node-clause-full
-returns-in_err-put_node-clause-full c = λ e. c.put_node.ensures.full (same_error c.from_residual.result c.put_node.result _ _ c.from_residual.ensures.1 c.in_err-put_node.was e)
+returns-in_err-put_node-clause-full c = λ e. c.put_node.ensures.refusals.full (same_error c.from_residual.result c.put_node.result _ _ c.from_residual.ensures.1 c.in_err-put_node.was e)
 
 pub returns-then-not-has_text-clause-fresh : goal.returns-then-not-has_text-clause-fresh
 returns-then-not-has_text-clause-fresh c = λ e. no_error _ _ e
@@ -172,7 +172,7 @@ pub returns-clause-fresh : goal.returns-clause-fresh
 returns-clause-fresh c = λ e. no_error _ _ e
 
 pub returns-in_err-put_node-clause-fresh : goal.returns-in_err-put_node-clause-fresh
-returns-in_err-put_node-clause-fresh c = λ e. c.put_node.ensures.fresh (same_error c.from_residual.result c.put_node.result _ _ c.from_residual.ensures.1 c.in_err-put_node.was e)
+returns-in_err-put_node-clause-fresh c = λ e. c.put_node.ensures.refusals.fresh (same_error c.from_residual.result c.put_node.result _ _ c.from_residual.ensures.1 c.in_err-put_node.was e)
 
 pub returns-then-not-has_text-clause-memory : goal.returns-then-not-has_text-clause-memory
 returns-then-not-has_text-clause-memory c = λ e. no_error _ _ e
@@ -181,7 +181,7 @@ pub returns-clause-memory : goal.returns-clause-memory
 returns-clause-memory c = λ e. no_error _ _ e
 
 pub returns-in_err-put_node-clause-memory : goal.returns-in_err-put_node-clause-memory
-returns-in_err-put_node-clause-memory c = λ e. c.put_node.ensures.memory (same_error c.from_residual.result c.put_node.result _ _ c.from_residual.ensures.1 c.in_err-put_node.was e)
+returns-in_err-put_node-clause-memory c = λ e. c.put_node.ensures.refusals.memory (same_error c.from_residual.result c.put_node.result _ _ c.from_residual.ensures.1 c.in_err-put_node.was e)
 
 pub returns-then-not-has_text-clause-live : goal.returns-then-not-has_text-clause-live
 returns-then-not-has_text-clause-live c = λ e. not_true e

@@ -1,7 +1,7 @@
 use Rattle.std.proofs.Common.{◌≡◌, length, get_or, sym, subst, ap, ◌∙◌, refl, arith, true, false}
 use Rattle.tc_hedge.proofs.Bounds.{patterns_of}
 use Rattle.tc_model.specs.States.{input}
-use Rattle.tc_beh.specs.Around.{PutsPatterns}
+use Rattle.tc_beh.specs.Around.{AreAllTakers, PutsPatterns}
 use Rattle.tc_beh.specs.Above.{letter_of}
 use Rattle.tc_beh.specs.Held.{Grows}
 use Rattle.tc_beh.specs.Rooms.{tree_layout, output_at}
@@ -128,6 +128,9 @@ returns-in_err-put_node-clause-room c =
     beside_then c.args.out.now.room c.set_heads.new.self c.put_node.new.out
     (beside_then c.args.out.now.room c.put_patterns.new.out c.set_heads.new.self c.put_patterns.ensures.beside c.set_heads.ensures.beside) c.put_node.ensures.beside
 
+pub put_patterns-requires-clause-takers : goal.put_patterns-requires-clause-takers
+put_patterns-requires-clause-takers c = let (x, rows) = c.requires.rows in subst (AreAllTakers c.args.self.now.machine.now.input) (sym c.as_slice-takers.ensures.value) rows.work.takers
+
 pub put_patterns-requires-clause-symbol : goal.put_patterns-requires-clause-symbol
 put_patterns-requires-clause-symbol c =
     let (x, rows) = c.requires.rows in
@@ -180,10 +183,10 @@ pub returns-then-not-put_patterns-clause-fixed : goal.returns-then-not-put_patte
 returns-then-not-put_patterns-clause-fixed c = λ e. refl
 
 pub returns-in_err-put_node-clause-fixed : goal.returns-in_err-put_node-clause-fixed
-returns-in_err-put_node-clause-fixed c = c.put_node.ensures.fixed
+returns-in_err-put_node-clause-fixed c = c.put_node.ensures.refusals.fixed
 
 pub returns-clause-fixed : goal.returns-clause-fixed
-returns-clause-fixed c = c.put_node.ensures.fixed
+returns-clause-fixed c = c.put_node.ensures.refusals.fixed
 
 pub returns-then-not-put_patterns-clause-full : goal.returns-then-not-put_patterns-clause-full
 returns-then-not-put_patterns-clause-full c = λ e. no_error _ _ e
@@ -192,7 +195,7 @@ pub returns-clause-full : goal.returns-clause-full
 returns-clause-full c = λ e. no_error _ _ e
 
 pub returns-in_err-put_node-clause-full : goal.returns-in_err-put_node-clause-full
-returns-in_err-put_node-clause-full c = λ e. c.put_node.ensures.full (same_error c.from_residual.result c.put_node.result _ _ c.from_residual.ensures.1 c.in_err-put_node.was e)
+returns-in_err-put_node-clause-full c = λ e. c.put_node.ensures.refusals.full (same_error c.from_residual.result c.put_node.result _ _ c.from_residual.ensures.1 c.in_err-put_node.was e)
 
 pub returns-then-not-put_patterns-clause-fresh : goal.returns-then-not-put_patterns-clause-fresh
 returns-then-not-put_patterns-clause-fresh c = λ e. no_error _ _ e
@@ -201,7 +204,7 @@ pub returns-clause-fresh : goal.returns-clause-fresh
 returns-clause-fresh c = λ e. no_error _ _ e
 
 pub returns-in_err-put_node-clause-fresh : goal.returns-in_err-put_node-clause-fresh
-returns-in_err-put_node-clause-fresh c = λ e. c.put_node.ensures.fresh (same_error c.from_residual.result c.put_node.result _ _ c.from_residual.ensures.1 c.in_err-put_node.was e)
+returns-in_err-put_node-clause-fresh c = λ e. c.put_node.ensures.refusals.fresh (same_error c.from_residual.result c.put_node.result _ _ c.from_residual.ensures.1 c.in_err-put_node.was e)
 
 pub returns-then-not-put_patterns-clause-memory : goal.returns-then-not-put_patterns-clause-memory
 returns-then-not-put_patterns-clause-memory c = λ e. no_error _ _ e
@@ -210,7 +213,7 @@ pub returns-clause-memory : goal.returns-clause-memory
 returns-clause-memory c = λ e. no_error _ _ e
 
 pub returns-in_err-put_node-clause-memory : goal.returns-in_err-put_node-clause-memory
-returns-in_err-put_node-clause-memory c = λ e. c.put_node.ensures.memory (same_error c.from_residual.result c.put_node.result _ _ c.from_residual.ensures.1 c.in_err-put_node.was e)
+returns-in_err-put_node-clause-memory c = λ e. c.put_node.ensures.refusals.memory (same_error c.from_residual.result c.put_node.result _ _ c.from_residual.ensures.1 c.in_err-put_node.was e)
 
 pub returns-then-not-put_patterns-clause-live : goal.returns-then-not-put_patterns-clause-live
 returns-then-not-put_patterns-clause-live c = λ e. not_true e

@@ -34,6 +34,7 @@ returns c = λ x h is.
       links = c.in_ok-sets.ensures.links h;
       known = c.in_ok-known.ensures x.symbols x.rules;
       bundles = subst (λ (b : Auto). AreStepsOf b c.in_ok-bundles.bundles) c.auto-2.ensures c.in_ok-bundles.ensures;
+      takers = c.in_ok-takers.ensures;
       runs = no_runs x c.new-runs.result.items c.new-runs.ensures.items;
     }
 
@@ -54,3 +55,6 @@ returns-in_err-known c = no_value c.from_residual-in_err-known.result _ _ c.from
 
 pub returns-in_err-bundles : goal.returns-in_err-bundles
 returns-in_err-bundles c = no_value c.from_residual-in_err-bundles.result _ _ c.from_residual-in_err-bundles.ensures.1
+
+pub returns-in_err-takers : goal.returns-in_err-takers
+returns-in_err-takers c = no_value c.from_residual-in_err-takers.result _ _ c.from_residual-in_err-takers.ensures.1
