@@ -7,11 +7,13 @@ use Rattle.tc_model.specs.States.{input, state_count}
 use Rattle.tc_mat.specs.Matrix.{Matrix}
 use Rattle.tc_rows.specs.Triples.{Triple}
 use Rattle.tc_rows.specs.Arithmetic.{IsLiveAppend, IsLiveWrap}
+use Rattle.tc_beh.specs.Machines.{IsShapeOf}
 use Rattle.tc_beh.specs.Rooms.{flagged, flags_in, hedge_row, tree_row}
-use Rattle.tc_close.specs.PairTables.{HasPair}
+use Rattle.tc_beh.specs.declared.machine.Shape.{Shape}
+use Rattle.tc_close.specs.NumberTables.{HasPair}
 use Rattle.tc_close.specs.declared.kinds.Alike.{Alike}
 use Rattle.tc_close.specs.declared.kinds.Kinds.{Kinds}
-use Rattle.tc_close.specs.Kinds.{AreAlike, IsLike, AreFit, FitLists, KnowsNothing, KnowsAppend, KnowsWrap, LearnsAppend, LearnsWrap, IsDeadAppend, IsDeadWrap, AreTrue}
+use Rattle.tc_close.specs.Kinds.{AreAlike, IsLike, AreFit, FitLists, KnowsNothing, KnowsAppend, KnowsWrap, LearnsAppend, LearnsWrap, LearnsCore, IsDeadAppend, IsDeadWrap, AreTrue}
 use Rattle.tc_close.proofs.Growing.{Keeps}
 
 pub alike_back : (n : ℕ) (a b : List ℕ) → AreAlike n a b → AreAlike n b a
@@ -78,6 +80,7 @@ module _ {IsOf : Triple → Type 0} {hedges trees : List (List ℕ)} {k : Kinds}
   learned_append new h t fit learns dead = record {
     states = λ x o. learns.states_stay ∙ are.states x o;
     patterns = λ x o. learns.patterns_stay ∙ are.patterns x o;
+    core = λ x o. ap (λ (l : Alike). l.flags) learns.cores_stay ∙ are.core x o;
     fit = fit;
     appends = λ i j at. elim (learns.comes i j at) [
       | inl before ↦ are.appends i j before
@@ -96,7 +99,8 @@ module _ {IsOf : Triple → Type 0} {hedges trees : List (List ℕ)} {k : Kinds}
   learned_wrap new a h fit same learns dead = record {
     states = λ x o. learns.states_stay ∙ are.states x o;
     patterns = λ x o. ap (λ (l : Alike). l.flags) same ∙ are.patterns x o;
-    fit = record { of_hedges = fit; of_trees = subst (λ l. AreFit trees l) (sym same) are.fit.of_trees };
+    core = λ x o. ap (λ (l : Alike). l.flags) learns.cores_stay ∙ are.core x o;
+    fit = record { of_hedges = fit; of_trees = subst (λ l. AreFit trees l) (sym same) are.fit.of_trees; of_cores = subst (λ l. AreFit hedges l) (sym learns.cores_stay) are.fit.of_cores };
     appends = λ i j at. are.appends i j (subst (λ w. HasPair w.places.items i j) learns.appends_stay at);
     wraps = λ b i at. elim (learns.comes b i at) [
       | inl before ↦ are.wraps b i before
@@ -107,6 +111,20 @@ module _ {IsOf : Triple → Type 0} {hedges trees : List (List ℕ)} {k : Kinds}
             (alike_back k.hedges.flags (get_or hedges i []) (get_or hedges h []) (subst (λ n. AreAlike n (get_or hedges i []) (get_or hedges h [])) learns.states_stay like.1.1)) dead),
       )
     ];
+  }
+
+  pub learned_core : (new : Kinds) → LearnsCore hedges k new → AreTrue IsOf hedges trees new
+  learned_core new learns = record {
+    states = λ x o. ap (λ (l : Alike). l.flags) learns.hedges_stay ∙ are.states x o;
+    patterns = λ x o. ap (λ (l : Alike). l.flags) learns.trees_stay ∙ are.patterns x o;
+    core = λ x o. learns.core_stays ∙ are.core x o;
+    fit = record {
+      of_hedges = subst (λ l. AreFit hedges l) (sym learns.hedges_stay) are.fit.of_hedges;
+      of_trees = subst (λ l. AreFit trees l) (sym learns.trees_stay) are.fit.of_trees;
+      of_cores = learns.fit;
+    };
+    appends = λ i j at. are.appends i j (subst (λ w. HasPair w.places.items i j) learns.appends_stay at);
+    wraps = λ a i at. are.wraps a i (subst (λ w. HasPair w.places.items a i) learns.wraps_stay at);
   }
 
 -- one more list is known
@@ -153,7 +171,12 @@ pub true_more : (IsOf : Triple → Type 0) (hedges more_hedges trees more_trees 
 true_more IsOf hedges more_hedges trees more_trees k are = record {
   states = are.states;
   patterns = are.patterns;
-  fit = record { of_hedges = fit_more hedges more_hedges k.hedges are.fit.of_hedges; of_trees = fit_more trees more_trees k.trees are.fit.of_trees };
+  core = are.core;
+  fit = record {
+    of_hedges = fit_more hedges more_hedges k.hedges are.fit.of_hedges;
+    of_trees = fit_more trees more_trees k.trees are.fit.of_trees;
+    of_cores = fit_more hedges more_hedges k.cores are.fit.of_cores;
+  };
   appends = λ i j at.
       let (low_i, low_j, dead) = are.appends i j at in (
         low_more hedges more_hedges i low_i,
@@ -175,17 +198,22 @@ true_tree IsOf hedges trees after n ns k keep are =
     subst (λ l. AreTrue IsOf hedges l k) (sym keep.all) (subst (λ l. AreTrue IsOf l (trees ++ keep.more) k) (append-nil hedges) (true_more IsOf hedges [] trees keep.more k are))
 
 -- nothing is known
-pub nothing_true : (IsOf : Triple → Type 0) (states patterns : ℕ) (k : Kinds) → KnowsNothing states patterns k → states ≤ 4294967295 → patterns ≤ 4294967295
-    → ((x : Triple) → IsOf x → states ≡ state_count x.input input) → ((x : Triple) → IsOf x → patterns ≡ length x.input.elements) → AreTrue IsOf [] [] k
-nothing_true IsOf states patterns k none few_states few_patterns states_are patterns_are = record {
-  states = λ x o. none.states_are ∙ states_are x o;
-  patterns = λ x o. none.patterns_are ∙ patterns_are x o;
-  fit = record { of_hedges = fit_none k.hedges none.of_hedges (let e = none.states_are in omega (arith, e, few_states)); of_trees = fit_none k.trees none.of_trees (let e = none.patterns_are in omega (arith, e, few_patterns)) };
+pub nothing_true : (IsOf : Triple → Type 0) (s : Shape) (k : Kinds) → KnowsNothing s k → s.inputs ≤ 4294967295 → s.entries ≤ 4294967295 → s.patterns ≤ 4294967295
+    → ((x : Triple) → IsOf x → IsShapeOf x s) → AreTrue IsOf [] [] k
+nothing_true IsOf s k none few few_entries few_patterns is = record {
+  states = λ x o. none.states_are ∙ (is x o).input_states;
+  patterns = λ x o. none.patterns_are ∙ (is x o).input_patterns;
+  core = λ x o. none.core_is ∙ (ap (λ n. n + s.entries) (is x o).input_states ∙ ap (λ n. state_count x.input input + n) (is x o).entry_number);
+  fit = record {
+    of_hedges = fit_none k.hedges none.of_hedges (let e = none.states_are in omega (arith, e, few));
+    of_trees = fit_none k.trees none.of_trees (let e = none.patterns_are in omega (arith, e, few_patterns));
+    of_cores = fit_none k.cores none.of_cores (let e = none.core_is in omega (arith, e, few, few_entries));
+  };
   appends = λ i j at. absurd (none.no_append i j at);
   wraps = λ a i at. absurd (none.no_wrap a i at);
 }
   where
-    fit_none : (a : Alike) → a.of.items ≡ [] → a.flags ≤ 4294967295 → AreFit [] a
+    fit_none : (a : Alike) → a.of.items ≡ [] → a.flags ≤ 8589934590 → AreFit [] a
     fit_none a of few = record {
       few = few;
       count = let n : length a.of.items ≡ 0 = ap length of in omega (arith, n);

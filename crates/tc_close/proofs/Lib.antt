@@ -13,7 +13,9 @@ pub mod Made
 pub mod Carried
 pub mod Verdicts
 pub mod Exact
-pub mod PairTables
+pub mod NumberTables
+pub mod LookFree
+pub mod FreeWraps
 pub mod KindLaws
 pub mod Ordered
 pub mod More

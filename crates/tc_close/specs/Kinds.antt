@@ -1,12 +1,13 @@
 -- Rows that may stand in the same places, and what is known to be dead of them.
 -- A kind is a state of the input's automata, determinised.
-use Rattle.std.specs.Prelude.{◌≡◌, ◌<◌, ◌≤◌, ◌⊎◌, ℕ, List, [], length, get_or}
+use Rattle.std.specs.Prelude.{◌≡◌, ◌<◌, ◌≤◌, ◌⊎◌, ◌+◌, ℕ, List, [], length, get_or}
 use Rattle.tc_model.specs.States.{input, state_count}
 use Rattle.tc_mat.specs.Matrix.{Matrix}
-use Rattle.tc_rows.specs.Triples.{Triple}
+use Rattle.tc_rows.specs.Triples.{Triple, entries}
 use Rattle.tc_rows.specs.Arithmetic.{IsLiveAppend, IsLiveWrap}
 use Rattle.tc_beh.specs.Rooms.{flags_in, hedge_row, tree_row}
-use Rattle.tc_close.specs.PairTables.{HasPair}
+use Rattle.tc_beh.specs.declared.machine.Shape.{Shape}
+use Rattle.tc_close.specs.NumberTables.{HasPair}
 use Rattle.tc_close.specs.declared.kinds.Alike.{Alike}
 use Rattle.tc_close.specs.declared.kinds.Kinds.{Kinds}
 
@@ -19,21 +20,29 @@ pub record AreAlike (flags : ℕ) (a b : List ℕ) : Type 0 where
 abbrev pub IsLike : ℕ → List (List ℕ) → ℕ → ℕ → Type 0
 IsLike flags lists k place = (k < length lists) × AreAlike flags (get_or lists k []) (get_or lists place [])
 
+-- and has the same flag of bearing
+pub record IsCore (flags : ℕ) (lists : List (List ℕ)) (k place : ℕ) : Type 0 where
+  pub like : IsLike flags lists k place
+  pub bears : get_or (get_or lists k []) 1 0 ≡ get_or (get_or lists place []) 1 0
+
 -- what is known of lists by their kind holds of these
 pub record AreFit (lists : List (List ℕ)) (a : Alike) : Type 0 where
-  pub few : a.flags ≤ 4294967295
+  pub few : a.flags ≤ 8589934590
   pub count : length a.of.items ≤ length lists
   pub each : (u : ℕ) → u < length a.of.items → IsLike a.flags lists (get_or a.of.items u 0) u
 
 pub record FitLists (hedges trees : List (List ℕ)) (k : Kinds) : Type 0 where
   pub of_hedges : AreFit hedges k.hedges
   pub of_trees : AreFit trees k.trees
+  pub of_cores : AreFit hedges k.cores
 
-pub record KnowsNothing (states patterns : ℕ) (k : Kinds) : Type 0 where
+pub record KnowsNothing (s : Shape) (k : Kinds) : Type 0 where
   pub of_hedges : k.hedges.of.items ≡ []
-  pub states_are : k.hedges.flags ≡ states
+  pub states_are : k.hedges.flags ≡ s.inputs
   pub of_trees : k.trees.of.items ≡ []
-  pub patterns_are : k.trees.flags ≡ patterns
+  pub patterns_are : k.trees.flags ≡ s.patterns
+  pub of_cores : k.cores.of.items ≡ []
+  pub core_is : k.cores.flags ≡ s.inputs + s.entries
   pub no_append : (i j : ℕ) → ¬ HasPair k.appends.places.items i j
   pub no_wrap : (a i : ℕ) → ¬ HasPair k.wraps.places.items a i
 
@@ -51,11 +60,22 @@ pub record LearnsAppend (hedges trees : List (List ℕ)) (h t : ℕ) (old new : 
   pub comes : (i j : ℕ) → HasPair new.appends.places.items i j
       → HasPair old.appends.places.items i j ⊎ (IsLike new.hedges.flags hedges i h × IsLike new.trees.flags trees j t)
   pub wraps_stay : new.wraps ≡ old.wraps
+  pub cores_stay : new.cores ≡ old.cores
 
 pub record LearnsWrap (hedges : List (List ℕ)) (a h : ℕ) (old new : Kinds) : Type 0 where
   pub states_stay : new.hedges.flags ≡ old.hedges.flags
   pub comes : (b i : ℕ) → HasPair new.wraps.places.items b i → HasPair old.wraps.places.items b i ⊎ ((b ≡ a) × IsLike new.hedges.flags hedges i h)
   pub appends_stay : new.appends ≡ old.appends
+  pub cores_stay : new.cores ≡ old.cores
+
+-- at most cores come on
+pub record LearnsCore (hedges : List (List ℕ)) (old new : Kinds) : Type 0 where
+  pub fit : AreFit hedges new.cores
+  pub core_stays : new.cores.flags ≡ old.cores.flags
+  pub hedges_stay : new.hedges ≡ old.hedges
+  pub trees_stay : new.trees ≡ old.trees
+  pub appends_stay : new.appends ≡ old.appends
+  pub wraps_stay : new.wraps ≡ old.wraps
 
 -- over each of these triples, whatever sets are held: no tree of a row like the second can stand behind trees of a row like the first
 abbrev pub IsDeadAppend : (Triple → Type 0) → List ℕ → List ℕ → Type 0
@@ -68,6 +88,7 @@ IsDeadWrap IsOf a hs = (x : Triple) → IsOf x → (held : List Matrix) → ¬ I
 pub record AreTrue (IsOf : Triple → Type 0) (hedges trees : List (List ℕ)) (k : Kinds) : Type 0 where
   pub states : (x : Triple) → IsOf x → k.hedges.flags ≡ state_count x.input input
   pub patterns : (x : Triple) → IsOf x → k.trees.flags ≡ length x.input.elements
+  pub core : (x : Triple) → IsOf x → k.cores.flags ≡ state_count x.input input + entries x
   pub fit : FitLists hedges trees k
   pub appends : (i j : ℕ) → HasPair k.appends.places.items i j → (i < length hedges) × (j < length trees) × IsDeadAppend IsOf (get_or hedges i []) (get_or trees j [])
   pub wraps : (a i : ℕ) → HasPair k.wraps.places.items a i → (i < length hedges) × IsDeadWrap IsOf a (get_or hedges i [])

@@ -5,7 +5,8 @@ pub mod Decisions
 pub mod RowState
 pub mod Settling
 pub mod HeldRows
-pub mod PairTables
+pub mod NumberTables
+pub mod LookFree
 pub mod Kinds
 pub mod Orders
 pub mod Certified

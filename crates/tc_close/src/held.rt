@@ -6,8 +6,10 @@ ghost use Rattle.std.specs.Prelude.{◌≡◌, ◌<◌, ◌≤◌, [], length, A
 ghost use Rattle.tc_beh.specs.Held.{set_at};
 ghost use Rattle.tc_beh.specs.Machines.{IsMachineOf, IsShapeOf};
 ghost use Rattle.tc_beh.specs.Places.{pairs_of};
+ghost use Rattle.tc_beh.specs.Stands.{IsRulesIn};
+ghost use Rattle.tc_close.specs.LookFree.{AgreeButLooks};
 ghost use Rattle.tc_close.specs.Lines.{tree_held, hedge_held};
-ghost use Rattle.tc_close.specs.RowState.{Known};
+ghost use Rattle.tc_close.specs.RowState.{Known, hedge_at, held_of};
 ghost use Rattle.tc_rows.specs.Triples.{Triple};
 
 use crate::kinds::Kinds;
@@ -20,6 +22,7 @@ use tc_alpha::Sym;
 use tc_base::NoMemory;
 use tc_beh::{Machine, RowFault, Rows, Shape};
 use tc_model::{HedgeLine, Pairs, TreeLine};
+use tc_rules::Rules;
 use tc_settle::{HoldFault, NumberedRows};
 
 /// Rows over a machine, each held once and known by its number. Once a row is refused, no further one is held.
@@ -147,6 +150,31 @@ impl<'m, 'b, K: Over> HeldRows<'m, 'b, K> {
         let _shape = self.shape();
         self.rooms.hedge.load(self.hedges.get(place));
         self.rooms.hedge.line(alloc)
+    }
+
+    /// The rules of the stylesheet.
+    pub(crate) fn rules(&self) -> &'m Rules<'b>
+        ensures { (x : Triple) → K.is_of x → IsRulesIn x result.now }
+    {
+        self.rows.machine().rules()
+    }
+
+    /// Whether it is known that no element of a symbol can stand around a list of trees.
+    pub(crate) fn is_dead_wrap(&self, symbol: u32, hedge: u32) -> bool
+        ensures { result ≡ true → (held_of K.is_of self.now).no_wrap symbol hedge }
+    {
+        self.kinds.is_dead_wrap(symbol, hedge)
+    }
+
+    /// A list of trees that agrees with this one in all but its looks: the first that does, if there is memory to find it.
+    pub(crate) fn core(&mut self, hedge: u32) -> u32
+        requires { hedge < length self.old.hedges }
+        ensures same { self.new ≡ self.old }
+        ensures low { result < length self.old.hedges }
+        ensures agree { (x : Triple) → K.is_of x
+            → AgreeButLooks (hedge_at x self.old result) (hedge_at x self.old hedge) }
+    {
+        self.kinds.core(&self.hedges, hedge)
     }
 
     /// Whether no row was refused.

@@ -1,10 +1,11 @@
 // Rows that may stand in the same places, and what is known to be dead of them.
 ghost use Rattle.std.specs.Prelude.{◌≡◌, ◌<◌, ◌≤◌, ◌+◌, ◌⊎◌, ℕ, [], Some, length, get_or, IfOk, IfSome, IsTrue, All};
 ghost use Rattle.std.specs.List.{Contains};
-ghost use Rattle.tc_close.specs.Kinds.{AreAlike, IsLike, AreFit, FitLists, KnowsNothing, KnowsAppend, KnowsWrap, LearnsAppend, LearnsWrap};
+ghost use Rattle.tc_close.specs.Kinds.{AreAlike, IsLike, AreFit, FitLists, KnowsNothing, KnowsAppend, KnowsWrap, LearnsAppend, LearnsWrap, LearnsCore, IsCore};
 
 use crate::lists::Lists;
-use crate::pair_table::PairTable;
+use crate::number_hasher::MULTIPLIER;
+use crate::number_table::NumberTable;
 use std::alloc::Global;
 use tc_base::NoMemory;
 use tc_beh::Shape;
@@ -18,11 +19,28 @@ pub(crate) struct Alike {
     /// How many flags there are.
     flags: usize,
     of: Vec<u32>,
+    /// The places of those that are like none before, each beside the sum of what they are compared by.
+    firsts: Vec<(u64, u32)>,
+}
+
+/// A sum of the number at the front and the flags of a list. No answer depends on it: what it tells is guessed.
+fn sum_of(flags: usize, numbers: &[u32]) -> u64
+    requires { flags ≤ 8589934590 }
+{
+    let end = HEADS + flags;
+    if numbers.len() < end {
+        return 0;
+    }
+    let mut sum = 0u64;
+    for number in &numbers[HEADS..end] {
+        sum = (sum ^ u64::from(*number)).wrapping_mul(MULTIPLIER);
+    }
+    sum
 }
 
 /// Whether two lists have the same number at the front and the same flags.
 fn are_alike(flags: usize, first: &[u32], second: &[u32]) -> bool
-    requires { flags ≤ 4294967295 }
+    requires { flags ≤ 8589934590 }
     ensures { IsTrue result → AreAlike flags first.now second.now }
 {
     let end = HEADS + flags;
@@ -32,27 +50,54 @@ fn are_alike(flags: usize, first: &[u32], second: &[u32]) -> bool
     first[0] == second[0] && first[HEADS..end] == second[HEADS..end]
 }
 
+/// Puts a list behind the first ones, if it is like none before.
+fn put_first(
+    firsts: &mut Vec<(u64, u32)>,
+    sum: u64,
+    first: u32,
+    place: usize,
+) -> Result<(), NoMemory> {
+    if first as usize == place {
+        firsts.push((sum, first))?;
+    }
+    Ok(())
+}
+
+/// Whether two rows bear alike.
+fn bear_alike(first: &[u32], second: &[u32]) -> bool
+    ensures { IsTrue result → get_or first.now 1 0 ≡ get_or second.now 1 0 }
+{
+    match (first.get(1), second.get(1)) {
+        (Some(first), Some(second)) => *first == *second,
+        _ => false,
+    }
+}
+
 impl Alike {
-    fn new(alloc: Global, flags: u32) -> Alike
+    fn new(alloc: Global, flags: usize) -> Alike
         ensures flags { result.flags ≡ flags }
         ensures of { result.of.items ≡ [] }
     {
         Alike {
-            flags: flags as usize,
+            flags,
             of: Vec::new(alloc),
+            firsts: Vec::new(alloc),
         }
     }
 
     /// The place of a list that is like this one: the first of its kind, or this one itself.
-    fn first_like(&self, lists: &Lists, place: u32) -> u32
+    fn first_like(&self, lists: &Lists, place: u32, sum: u64) -> u32
         requires fit { AreFit lists.now self.now }
         requires place { place < length lists.now }
         ensures { IsLike self.now.flags lists.now result place }
     {
-        for known in 0..self.of.len() {
-            let is_first = self.of[known] as usize == known;
-            if is_first && are_alike(self.flags, lists.get(known as u32), lists.get(place)) {
-                return known as u32;
+        for known in 0..self.firsts.len() {
+            let (other, first) = self.firsts[known];
+            if other == sum
+                && first < place
+                && are_alike(self.flags, lists.get(first), lists.get(place))
+            {
+                return first;
             }
         }
         place
@@ -72,7 +117,9 @@ impl Alike {
             × (get_or self.new.of.items u 0 ≡ get_or self.old.of.items u 0) }
     {
         for next in self.of.len()..place as usize + 1 {
-            let first = self.first_like(lists, next as u32);
+            let sum = sum_of(self.flags, lists.get(next as u32));
+            let first = self.first_like(lists, next as u32, sum);
+            put_first(&mut self.firsts, sum, first, next)?;
             self.of.push(first)?;
         }
         Ok(())
@@ -99,10 +146,12 @@ impl Alike {
 pub(crate) struct Kinds {
     hedges: Alike,
     trees: Alike,
+    /// Lists of trees by all but their looks and whether they bear: their entries are taken for flags.
+    cores: Alike,
     /// Lists of trees and trees, by the first ones of their kinds: the tree can't stand behind the list.
-    appends: PairTable,
+    appends: NumberTable,
     /// Symbols and lists of trees: no element of the symbol can stand around the list.
-    wraps: PairTable,
+    wraps: NumberTable,
 }
 
 impl Kinds {
@@ -112,13 +161,16 @@ impl Kinds {
     ///
     /// There is no memory for the pairs.
     pub(crate) fn new(alloc: Global, shape: Shape) -> Result<Kinds, NoMemory>
-        ensures { IfOk result (λ k. KnowsNothing shape.inputs shape.patterns k) }
+        ensures { IfOk result (λ k. KnowsNothing shape k) }
     {
-        let appends = PairTable::new(alloc)?;
-        let wraps = PairTable::new(alloc)?;
+        let appends = NumberTable::new(alloc)?;
+        let wraps = NumberTable::new(alloc)?;
+        let inputs = shape.inputs as usize;
+        let entries = shape.entries as usize;
         Ok(Kinds {
-            hedges: Alike::new(alloc, shape.inputs),
-            trees: Alike::new(alloc, shape.patterns),
+            hedges: Alike::new(alloc, inputs),
+            trees: Alike::new(alloc, shape.patterns as usize),
+            cores: Alike::new(alloc, inputs + entries),
             appends,
             wraps,
         })
@@ -134,7 +186,7 @@ impl Kinds {
         ) else {
             return false;
         };
-        self.appends.has(*first, *second)
+        self.appends.get(*first, *second).is_some()
     }
 
     /// Whether it is known that no element of a symbol can stand around a list of trees.
@@ -142,7 +194,7 @@ impl Kinds {
         ensures { IsTrue result → KnowsWrap self.now symbol hedge }
     {
         match self.hedges.of.get(hedge as usize) {
-            Some(first) => self.wraps.has(symbol, *first),
+            Some(first) => self.wraps.get(symbol, *first).is_some(),
             None => false,
         }
     }
@@ -158,7 +210,7 @@ impl Kinds {
         let first = self.hedges.learned(hedges, hedge);
         let second = self.trees.learned(trees, tree);
         if let (Some(first), Some(second)) = (first, second) {
-            self.appends.put(first, second);
+            self.appends.put(first, second, 0);
         }
     }
 
@@ -171,7 +223,24 @@ impl Kinds {
         ensures wrap { LearnsWrap hedges.now symbol hedge self.old self.new }
     {
         if let Some(first) = self.hedges.learned(hedges, hedge) {
-            self.wraps.put(symbol, first);
+            self.wraps.put(symbol, first, 0);
+        }
+    }
+
+    /// A list of trees that has all but the looks of this one: the first that does, if there is memory to find it.
+    pub(crate) fn core(&mut self, hedges: &Lists, hedge: u32) -> u32
+        requires hedge { hedge < length hedges.now }
+        requires fit { AreFit hedges.now self.old.cores }
+        ensures learns { LearnsCore hedges.now self.old self.new }
+        ensures core { IsCore self.new.cores.flags hedges.now result hedge }
+    {
+        let Some(first) = self.cores.learned(hedges, hedge) else {
+            return hedge;
+        };
+        if bear_alike(hedges.get(first), hedges.get(hedge)) {
+            first
+        } else {
+            hedge
         }
     }
 }

@@ -8,11 +8,12 @@ mod held;
 mod kinds;
 pub mod laws;
 mod lists;
+mod look_free;
 mod number_hasher;
+mod number_table;
 mod once;
 mod order;
 mod over;
-mod pair_table;
 mod proof;
 mod rooms;
 

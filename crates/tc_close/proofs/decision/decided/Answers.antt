@@ -15,10 +15,10 @@ pub verdict-requires-clause-settled : goal.verdict-requires-clause-settled
 verdict-requires-clause-settled g c = subst (λ (s : RowState). IsSettled g.K.Over.is_of s c.in_ok-closed.closed c.args.most) (sym c.once.view_is) c.in_ok-closed.ensures.settled
 
 pub invariant_of-once : goal.invariant_of-once
-invariant_of-once g c = once_on g.K.Over.is_of c.once.inside.alike.firsts.items c.once.inside.wraps c.once.inside.rows c.verdict.new.rows c.verdict.ensures.same.0 c.once.invariant
+invariant_of-once g c = once_on g.K.Over.is_of c.once.inside.alike.firsts.items c.once.inside.free c.once.inside.wraps c.once.inside.rows c.verdict.new.rows c.verdict.ensures.same.0 c.once.invariant
 
 pub invariant_of-once-2 : goal.invariant_of-once-2
-invariant_of-once-2 g c = once_on g.K.Over.is_of c.once.inside.alike.firsts.items c.once.inside.wraps c.once.inside.rows c.verdict.new.rows c.verdict.ensures.same.0 c.once.invariant
+invariant_of-once-2 g c = once_on g.K.Over.is_of c.once.inside.alike.firsts.items c.once.inside.free c.once.inside.wraps c.once.inside.rows c.verdict.new.rows c.verdict.ensures.same.0 c.once.invariant
 
 pub returns-in_err-closed-clause-decision : goal.returns-in_err-closed-clause-decision
 returns-in_err-closed-clause-decision g c = no_ok c.from_residual.result _ (λ d. (x : Triple) → g.K.Over.is_of x → IsDecided x c.args.most d) c.from_residual.ensures.1

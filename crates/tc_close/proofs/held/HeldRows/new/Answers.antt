@@ -33,6 +33,5 @@ invariant_of-result g c =
       },
       subst (λ l. AreTrue g.K.Over.is_of l c.new-5.result c.in_ok-kinds.kinds) (sym c.new-4.ensures)
           (subst (λ l. AreTrue g.K.Over.is_of [] l c.in_ok-kinds.kinds) (sym c.new-5.ensures)
-          (nothing_true g.K.Over.is_of c.shape.result.inputs c.shape.result.patterns c.in_ok-kinds.kinds c.in_ok-kinds.ensures (search rules) (search rules)
-          (λ x o. (shape x o).input_states) (λ x o. (shape x o).input_patterns))),
+          (nothing_true g.K.Over.is_of c.shape.result c.in_ok-kinds.kinds c.in_ok-kinds.ensures (search rules) (search rules) (search rules) shape)),
     )

@@ -13,9 +13,10 @@ returns-in-Some-Some-clause-append c =
     record {
       states_stay = c.learned-first.ensures.flags;
       patterns_stay = c.learned-second.ensures.flags;
-      comes = λ i j at. elim (c.put.ensures i j at) [
-        | inl before ↦ inl before
+      comes = λ i j at. elim (c.put.ensures i j at.0 at.1) [
+        | inl before ↦ inl (at.0, before)
         | inr same ↦ inr (subst (λ k. IsLike m hedges k c.args.hedge) (sym same.0) first, subst (λ k. IsLike n trees k c.args.tree) (sym same.1) second)
       ];
       wraps_stay = refl;
+      cores_stay = refl;
     }

@@ -5,7 +5,7 @@ use Rattle.tc_close.proofs.OnceLaws.{once_on}
 use Rattle.tc_close.proofs.once.OnceRowsNumberedRows.is_failing.Goals as goal
 
 pub invariant_of-self : goal.invariant_of-self
-invariant_of-self g c = once_on g.K.Over.is_of c.self.inside.alike.firsts.items c.self.inside.wraps c.self.inside.rows c.is_failing.new.self c.is_failing.ensures.same.0 c.self.invariant
+invariant_of-self g c = once_on g.K.Over.is_of c.self.inside.alike.firsts.items c.self.inside.free c.self.inside.wraps c.self.inside.rows c.is_failing.new.self c.is_failing.ensures.same.0 c.self.invariant
 
 pub returns-clause-fails : goal.returns-clause-fails
 returns-clause-fails g c =

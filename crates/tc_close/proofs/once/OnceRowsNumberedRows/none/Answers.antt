@@ -5,7 +5,7 @@ use Rattle.tc_close.proofs.OnceLaws.{once_on}
 use Rattle.tc_close.proofs.once.OnceRowsNumberedRows.none.Goals as goal
 
 pub invariant_of-self : goal.invariant_of-self
-invariant_of-self g c = once_on g.K.Over.is_of c.self.inside.alike.firsts.items c.self.inside.wraps c.self.inside.rows c.none.new.self c.none.ensures.grows c.self.invariant
+invariant_of-self g c = once_on g.K.Over.is_of c.self.inside.alike.firsts.items c.self.inside.free c.self.inside.wraps c.self.inside.rows c.none.new.self c.none.ensures.grows c.self.invariant
 
 pub returns-clause-grows : goal.returns-clause-grows
 returns-clause-grows g c =

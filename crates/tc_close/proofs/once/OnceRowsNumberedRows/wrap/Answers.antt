@@ -1,9 +1,17 @@
-use Rattle.std.proofs.Common.{◌<◌, ◌∙◌, sym, subst, ap, length, MatchOption}
+use Rattle.std.proofs.Common.{inl, ℕ, Option, refl, sym, subst, length, MatchOption}
 use Rattle.tc_settle.specs.Held.{Grows, IsHeldAs, IsUnchanged, IsWrapAt}
 use Rattle.tc_close.specs.RowState.{RowState, held_of}
 use Rattle.tc_close.proofs.Growing.{grows_self}
-use Rattle.tc_close.proofs.OnceLaws.{told_again, told_of}
+use Rattle.tc_close.proofs.OnceLaws.{dead_first, live_first, made_first}
 use Rattle.tc_close.proofs.once.OnceRowsNumberedRows.wrap.Goals as goal
+
+-- what is known to be dead
+pub returns-then-is_dead-clause-grows : goal.returns-then-is_dead-clause-grows
+returns-then-is_dead-clause-grows g c = grows_self (held_of g.K.Over.is_of c.args.self.now)
+
+pub returns-then-is_dead-clause-made : goal.returns-then-is_dead-clause-made
+returns-then-is_dead-clause-made g c =
+    (dead_first g.K.Over.is_of c.args.self.now c.args.symbol c.args.hedge c.first-first.result c.first-first.ensures.alike (c.is_dead.ensures c.if-is_dead.true), (refl, refl))
 
 -- what is known
 pub returns-in-Some-clause-grows : goal.returns-in-Some-clause-grows
@@ -14,48 +22,28 @@ returns-in-Some-clause-grows g c =
 pub returns-in-Some-clause-made : goal.returns-in-Some-clause-made
 returns-in-Some-clause-made g c =
     let of = g.K.Over.is_of in
-    let old = held_of of c.args.self.now in
-    subst (λ (s : RowState). MatchOption c.in-Some.made ((held_of of s).no_wrap c.args.symbol c.args.hedge × IsUnchanged old (held_of of s)) (λ u. IsWrapAt (held_of of s) c.args.symbol c.args.hedge u × IsHeldAs old.trees (length s.trees) u))
-    (sym c.known_wrap.ensures.same) (told_again old c.args.symbol c.args.hedge c.in-Some.made c.in-Some.ensures.told)
+    let old = c.args.self.now in
+    let at = live_first of old c.args.symbol c.args.hedge c.first-first.result c.first-first.ensures.alike c.in-Some.tree c.in-Some.ensures.told in
+    subst (λ (s : RowState). IsWrapAt (held_of of s) c.args.symbol c.args.hedge c.in-Some.tree × IsHeldAs (length old.trees) (length s.trees) c.in-Some.tree) (sym c.known_wrap.ensures.same) (at, inl (at.0, refl))
 
 -- what is worked out
-pub wrap_new-requires-clause-symbol : goal.wrap_new-requires-clause-symbol
-wrap_new-requires-clause-symbol g c = subst (λ (s : RowState). c.args.symbol < s.symbols) (sym c.known_wrap.ensures.same) c.requires.symbol
-
-pub wrap_new-requires-clause-hedge : goal.wrap_new-requires-clause-hedge
-wrap_new-requires-clause-hedge g c = subst (λ (s : RowState). c.args.hedge < length s.hedges) (sym c.known_wrap.ensures.same) c.requires.hedge
-
-pub wrap_new-requires-clause-room : goal.wrap_new-requires-clause-room
-wrap_new-requires-clause-room g c = subst (λ (s : RowState). length s.trees < 4294967295) (sym c.known_wrap.ensures.same) c.requires.room
-
-pub returns-in_err-made-clause-grows : goal.returns-in_err-made-clause-grows
-returns-in_err-made-clause-grows g c =
+pub returns-in-Some-made-clause-made : goal.returns-in-Some-made-clause-made
+returns-in-Some-made-clause-made g c =
     let of = g.K.Over.is_of in
-    subst (λ (s : RowState). Grows (held_of of s) (held_of of c.wrap_new.new.self)) c.known_wrap.ensures.same c.wrap_new.ensures.grows
+    let first = c.first-first.result in
+    let new = c.wrap_new.new.self in
+    let u = c.in-Some-made.tree in
+    let Made : RowState → RowState → Type 0 = λ b s. IsWrapAt (held_of of s) c.args.symbol c.args.hedge u × IsHeldAs (length b.trees) (length s.trees) u in
+    let told = subst (λ (o : Option ℕ). MatchOption o ((held_of of new).no_wrap first c.args.hedge × IsUnchanged (held_of of c.known_wrap.new.self) (held_of of new)) (λ v. IsWrapAt (held_of of new) first c.args.hedge v × IsHeldAs (length c.known_wrap.new.self.trees) (length new.trees) v))
+    c.in-Some-made.is c.in_ok-made.ensures.made
+    in
+    subst (λ s. Made c.args.self.now s) (sym c.learn_wrap.ensures) (subst (λ b. Made b new) c.known_wrap.ensures.same (live_first of new c.args.symbol c.args.hedge first c.first-first.ensures.alike u told.0, told.1))
 
-pub learn_wrap-requires-clause-symbol : goal.learn_wrap-requires-clause-symbol
-learn_wrap-requires-clause-symbol g c = subst (λ n. c.args.symbol < n) (sym (c.wrap_new.ensures.grows.symbols ∙ ap (λ (s : RowState). s.symbols) c.known_wrap.ensures.same)) c.requires.symbol
-
-pub learn_wrap-requires-clause-hedge : goal.learn_wrap-requires-clause-hedge
-learn_wrap-requires-clause-hedge g c = subst (λ n. c.args.hedge < n) (sym (c.wrap_new.ensures.hedges ∙ ap (λ (s : RowState). length s.hedges) c.known_wrap.ensures.same)) c.requires.hedge
-
-pub learn_wrap-requires-clause-told : goal.learn_wrap-requires-clause-told
-learn_wrap-requires-clause-told g c =
+pub returns-in_default-made-clause-made : goal.returns-in_default-made-clause-made
+returns-in_default-made-clause-made g c =
     let of = g.K.Over.is_of in
-    told_of (held_of of c.known_wrap.new.self) (held_of of c.wrap_new.new.self) c.args.symbol c.args.hedge c.in_ok-made.made c.in_ok-made.ensures.made
-
-pub returns-clause-grows : goal.returns-clause-grows
-returns-clause-grows g c =
-    let of = g.K.Over.is_of in
-    subst (λ (s : RowState). Grows (held_of of c.args.self.now) (held_of of s)) (sym c.learn_wrap.ensures)
-    (subst (λ (s : RowState). Grows (held_of of s) (held_of of c.wrap_new.new.self)) c.known_wrap.ensures.same c.wrap_new.ensures.grows)
-
-pub returns-clause-hedges : goal.returns-clause-hedges
-returns-clause-hedges g c = ap (λ (s : RowState). length s.hedges) c.learn_wrap.ensures ∙ (c.wrap_new.ensures.hedges ∙ ap (λ (s : RowState). length s.hedges) c.known_wrap.ensures.same)
-
-pub returns-clause-made : goal.returns-clause-made
-returns-clause-made g c =
-    let of = g.K.Over.is_of in
-    let Made : RowState → RowState → Type 0 =
-    λ a s. MatchOption c.in_ok-made.made ((held_of of s).no_wrap c.args.symbol c.args.hedge × IsUnchanged (held_of of a) (held_of of s)) (λ u. IsWrapAt (held_of of s) c.args.symbol c.args.hedge u × IsHeldAs (length a.trees) (length s.trees) u) in
-    subst (λ s. Made c.args.self.now s) (sym c.learn_wrap.ensures) (subst (λ a. Made a c.wrap_new.new.self) c.known_wrap.ensures.same c.in_ok-made.ensures.made)
+    let new = c.wrap_new.new.self in
+    let Made : RowState → Type 0 =
+    λ b. MatchOption c.in_ok-made.made ((held_of of new).no_wrap c.args.symbol c.args.hedge × IsUnchanged (held_of of b) (held_of of new)) (λ u. IsWrapAt (held_of of new) c.args.symbol c.args.hedge u × IsHeldAs (length b.trees) (length new.trees) u) in
+    subst Made c.known_wrap.ensures.same
+    (made_first of new c.args.symbol c.args.hedge c.first-first.result c.first-first.ensures.alike (held_of of c.known_wrap.new.self) (length c.known_wrap.new.self.trees) c.in_ok-made.made c.in_ok-made.ensures.made)

@@ -1,0 +1,13 @@
+-- Pairs of numbers, each with a number, that stand at places.
+use Rattle.std.specs.Prelude.{ℕ, List, Option, Some}
+use Rattle.std.specs.List.{Contains}
+
+abbrev pub numbered : ℕ → ℕ → ℕ → Option (ℕ × ℕ × ℕ)
+numbered i j n = Some (i, j, n)
+
+abbrev pub HasNumber : List (Option (ℕ × ℕ × ℕ)) → ℕ → ℕ → ℕ → Type 0
+HasNumber places i j n = Contains places (numbered i j n)
+
+-- whatever its number is
+abbrev pub HasPair : List (Option (ℕ × ℕ × ℕ)) → ℕ → ℕ → Type 0
+HasPair places i j = (n : ℕ) × HasNumber places i j n

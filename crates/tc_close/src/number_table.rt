@@ -1,0 +1,60 @@
+// Pairs of numbers for which a number is remembered for a while.
+ghost use Rattle.std.specs.Prelude.{◌≡◌, ◌<◌, ◌⊎◌, ℕ, length, IfOk, IfSome};
+ghost use Rattle.tc_close.specs.NumberTables.{HasNumber};
+
+use crate::number_hasher::MULTIPLIER;
+use std::alloc::Global;
+use tc_base::NoMemory;
+
+/// For how many pairs a number is remembered.
+const REMEMBERED: usize = 16384;
+
+/// Pairs of numbers, each with a number. A pair is forgotten where another one comes to its place.
+#[derive(Drop)]
+pub(crate) struct NumberTable {
+    places: Vec<Option<(u32, u32, u32)>>,
+    ghost whole: { length places.items ≡ 16384 },
+}
+
+/// Where a pair is remembered. Pairs with the same second number, whose first ones are near, have different places.
+fn place_of(first: u32, second: u32) -> usize
+    ensures { result < 16384 }
+{
+    let begin = u64::from(second).wrapping_mul(MULTIPLIER) >> 40;
+    u64::from(first).wrapping_add(begin) as usize % REMEMBERED
+}
+
+impl NumberTable {
+    /// No pair.
+    ///
+    /// # Errors
+    ///
+    /// There is no memory for the places.
+    pub(crate) fn new(alloc: Global) -> Result<NumberTable, NoMemory>
+        ensures { IfOk result (λ t. (i j n : ℕ) → ¬ HasNumber t.places.items i j n) }
+    {
+        let places = vec![in alloc; None; REMEMBERED]?;
+        Ok(NumberTable { places })
+    }
+
+    /// The number of a pair, if it is remembered.
+    pub(crate) fn get(&self, first: u32, second: u32) -> Option<u32>
+        ensures { IfSome result (λ n. HasNumber self.now.places.items first second n) }
+    {
+        let (one, other, number) = self.places[place_of(first, second)]?;
+        if one == first && other == second {
+            Some(number)
+        } else {
+            None
+        }
+    }
+
+    /// Remembers the number of a pair.
+    pub(crate) fn put(&mut self, first: u32, second: u32, number: u32)
+        ensures { (i j n : ℕ) → HasNumber self.new.places.items i j n
+            → HasNumber self.old.places.items i j n
+            ⊎ ((i ≡ first) × (j ≡ second) × (n ≡ number)) }
+    {
+        self.places[place_of(first, second)] = Some((first, second, number));
+    }
+}
