@@ -15,7 +15,7 @@ use Rattle.tc_decide.specs.declared.comparing.Pair.{Pair}
 use Rattle.tc_decide.specs.declared.failure.Failure.{Failure}
 use Rattle.tc_decide.specs.declared.failure.Failure.TheVariants.{Refused, Passes, NoMemory}
 use Rattle.tc_decide.specs.declared.failure.Kind.{Kind}
-use Rattle.tc_decide.specs.declared.failure.Kind.TheVariants.{Texts, Rows, Nodes, Certificate, Work, Open}
+use Rattle.tc_decide.specs.declared.failure.Kind.TheVariants.{Texts, Rows, Nodes, Certificate, Work, Open, Pieces}
 use Rattle.tc_decide.specs.declared.limits.TheConstants.{MOST_ROWS, MOST_SHOWN_NODES}
 use Rattle.tc_decide.specs.declared.verdict.Equality.{Equality}
 use Rattle.tc_decide.specs.declared.verdict.Equality.TheVariants.{Same, FirstOnly, SecondOnly}
@@ -252,6 +252,7 @@ module _ (g h : Grammar) where
   not_passed question Certificate number k n p = absurd p
   not_passed question Work number k n p = absurd p
   not_passed question Open number k n p = absurd p
+  not_passed question (Pieces measure) number k n p = absurd p
 
   so_not_passed : (question : Question) (kind : Kind) (number : ℕ) → AreKept g h question → IsSo g h question → PassesComparison g h question kind number → ⊥
   so_not_passed question kind number k so p = not_passed question kind number k (λ l. not_refuted question _ so l.some.1) p

@@ -9,7 +9,7 @@ use Rattle.tc_decide.specs.TextsSeen.{of_limit, IsRefusalOf}
 use Rattle.tc_decide.specs.declared.comparing.Pair.{Pair}
 use Rattle.tc_decide.specs.declared.failure.Failure.{Failure}
 use Rattle.tc_decide.specs.declared.failure.Failure.TheVariants.{Refused, Passes, NoMemory}
-use Rattle.tc_decide.specs.declared.failure.Kind.TheVariants.{Texts, Rows, Nodes, Certificate, Work, Open}
+use Rattle.tc_decide.specs.declared.failure.Kind.TheVariants.{Texts, Rows, Nodes, Certificate, Work, Open, Pieces}
 use Rattle.tc_decide.specs.declared.failure.Which.{Which}
 use Rattle.tc_decide.specs.declared.failure.Which.TheVariants as which
 use Rattle.tc_decide.specs.declared.machine.LimitFault.{LimitFault}
@@ -63,6 +63,7 @@ module _ {V : Type 0} (Found : Grammar → Grammar → Result V Failure → Type
   stopped (Passes Certificate number) p = absurd p
   stopped (Passes Work number) p = absurd p
   stopped (Passes Open number) p = absurd p
+  stopped (Passes (Pieces measure) number) p = absurd p
   stopped (Refused which.Input reason at) r = record { refusal = r; found = λ a b p q. absurd (no_schema first a reason (see.place at) r p) }
   stopped (Refused which.Output reason at) r = record { refusal = r; found = λ a b p q. absurd (no_schema second b reason (see.place at) r.1 q) }
   stopped (Refused which.Sheet reason at) r = absurd r

@@ -1,18 +1,18 @@
 -- What is found decides: each verdict and each failure by its cause, and the causes exclude one another.
-use Rattle.std.proofs.Common.{◌≡◌, ◌⊎◌, inl, inr, refl, subst, ℕ, Result, Ok, Err, arith}
+use Rattle.std.proofs.Common.{◌≡◌, ◌⊎◌, inl, inr, refl, subst, ℕ, Result, Ok, Err, OnOk, arith}
 use Rattle.tc_close.specs.Decisions.{IsDecided, IsCloseCause}
 use Rattle.tc_close.specs.declared.decision.CloseFault.{CloseFault}
 use Rattle.tc_close.specs.declared.decision.CloseFault.TheVariants.{TooManyTrees, TooManyHedges, TooManyOutputs, NoMemory as close_memory}
 use Rattle.tc_close.specs.declared.decision.Counts.{Counts}
 use Rattle.tc_close.specs.declared.decision.Decision.TheVariants as decision
-use Rattle.tc_decide.specs.Checking.{IsWithinTripleLimits, IsCounter, IsLeastCounter, HasSmallCounter, HasLargeCounters}
-use Rattle.tc_decide.specs.Deciding.{OnSafe, IfUnsafe, IsShownBy, KeepsAll, PassesFirst, IsOutputOf, DecidesSafety, TellsCounts}
+use Rattle.tc_decide.specs.Checking.{IsWithinTripleLimits, IsCounter, IsLeastCounter, HasFewestNodes, HasSmallCounter, HasLargeCounters}
+use Rattle.tc_decide.specs.Deciding.{OnSafe, IfUnsafe, IsShownBy, KeepsAll, PassesFirst, IsOutputOf, DecidesSafety, DecidesWithin, TellsCounts, IsCounted}
 use Rattle.tc_decide.specs.RowCounts.{trees, hedges, outputs, row_count}
 use Rattle.tc_decide.specs.TextsSeen.{of_close, IsFound}
 use Rattle.tc_decide.specs.declared.failure.Failure.{Failure}
 use Rattle.tc_decide.specs.declared.failure.Failure.TheVariants.{Refused, Passes, NoMemory}
 use Rattle.tc_decide.specs.declared.failure.Kind.{Kind}
-use Rattle.tc_decide.specs.declared.failure.Kind.TheVariants.{Texts, Rows, Nodes, Certificate, Work, Open}
+use Rattle.tc_decide.specs.declared.failure.Kind.TheVariants.{Texts, Rows, Nodes, Certificate, Work, Open, Pieces}
 use Rattle.tc_decide.specs.declared.limits.TheConstants.{MOST_SHOWN_NODES}
 use Rattle.tc_decide.specs.declared.verdict.Output.{Output}
 use Rattle.tc_decide.specs.declared.verdict.Output.TheVariants.{Shown, TooLarge}
@@ -52,10 +52,11 @@ module _ (most : ℕ) (i o : Grammar) (s : Sheet) where
   not_kept Certificate number p k d = absurd p
   not_kept Work number p k d = absurd p
   not_kept Open number p k d = absurd p
+  not_kept (Pieces measure) number p k d = absurd p
   not_kept Nodes number p k (inl safe) = not_both i o s safe p.1.some.1
   not_kept Nodes number p k (inr small) = small_far small p.1
 
-  is_yes : (counts : Counts) → KeepsAll i o s most → IsSafe i o s → DecidesSafety most i o s (Ok (Safe counts))
+  is_yes : (counts : Counts) → KeepsAll i o s most → IsSafe i o s → DecidesWithin most i o s (Ok (Safe counts))
   is_yes counts k h = record {
     yes = (λ _. (k, h), λ _. tt);
     no = (λ e. absurd e, λ x. absurd (not_both i o s h x.1.1));
@@ -67,7 +68,7 @@ module _ (most : ℕ) (i o : Grammar) (s : Sheet) where
   small_of {document} l = (document, l.counter, l.few)
 
   is_no : (document : _) (output : Output) → KeepsAll i o s most → IsLeastCounter i o s (see.before document none) → IsOutputOf s (see.before document none) output
-      → DecidesSafety most i o s (Ok (Unsafe document output))
+      → DecidesWithin most i o s (Ok (Unsafe document output))
   is_no document output k l r = record {
     yes = (λ e. absurd e, λ x. absurd (not_both i o s x.1 l.counter));
     no = (λ _. (k, small_of l), λ _. tt);
@@ -75,7 +76,7 @@ module _ (most : ℕ) (i o : Grammar) (s : Sheet) where
     limit = (λ e. absurd e, λ (kind, number, p). absurd (not_kept kind number p k (inr (small_of l))));
   }
 
-  pub decides : (result : Result Verdict Failure) → IsFound most i o s result → (result ≡ Err NoMemory) ⊎ DecidesSafety most i o s result
+  pub decides : (result : Result Verdict Failure) → IsFound most i o s result → (result ≡ Err NoMemory) ⊎ DecidesWithin most i o s result
   decides (Ok (Safe counts)) f = inr (is_yes counts f.0 f.2)
   decides (Ok (Unsafe document output)) f = inr (is_no document output f.0 f.1 f.2)
   decides (Err (Refused which reason at)) f = absurd f
@@ -109,6 +110,21 @@ module _ (most : ℕ) (i o : Grammar) (s : Sheet) where
   counts (Err (Refused which reason at)) f = absurd f
   counts (Err (Passes kind number)) f = f
   counts (Err NoMemory) f = tt
+
+  pub counted : (result : Result Verdict Failure) → IsFound most i o s result → IsCounted most i o s result
+  counted result f = record { limits = decides result f; numbers = counts result f }
+
+  pub fewest : {document : Trees} → IsLeastCounter i o s document → HasFewestNodes i o s document
+  fewest l = record { few = l.few; least = l.least }
+
+  pub headline : (result : Result Verdict Failure) → IsFound most i o s result → OnOk result (DecidesSafety i o s result)
+  headline (Ok (Safe n)) f = record { yes = (λ _. f.2, λ _. tt); no = (λ e. absurd e, λ x. absurd (not_both i o s f.2 x.1)); least = tt }
+  headline (Ok (Unsafe document output)) f = record {
+    yes = (λ e. absurd e, λ h. absurd (not_both i o s h f.1.counter));
+    no = (λ _. small_of f.1, λ _. tt);
+    least = (shown_by (see.before document none) output f.1.counter f.2, fewest f.1);
+  }
+  headline (Err failure) f = tt
 
 -- what is found tells no refusal, and tells each limit that is passed before rows are tried
 pub found_texts : (most : ℕ) → FindsLimits (IsFound most)

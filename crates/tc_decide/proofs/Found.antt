@@ -8,7 +8,7 @@ use Rattle.tc_decide.specs.Texts.{Spells}
 use Rattle.tc_decide.specs.TextsSeen.{IsMachineOfTexts, StopsTexts, IsFoundOfTexts}
 use Rattle.tc_decide.specs.declared.failure.Failure.{Failure}
 use Rattle.tc_decide.specs.declared.failure.Failure.TheVariants.{Refused, Passes, NoMemory}
-use Rattle.tc_decide.specs.declared.failure.Kind.TheVariants.{Texts, Rows, Nodes, Certificate, Work, Open}
+use Rattle.tc_decide.specs.declared.failure.Kind.TheVariants.{Texts, Rows, Nodes, Certificate, Work, Open, Pieces}
 use Rattle.tc_decide.specs.declared.failure.Which.{Which}
 use Rattle.tc_decide.specs.declared.failure.Which.TheVariants as which
 use Rattle.tc_decide.specs.declared.schemas.SchemaText.{SchemaText}
@@ -62,6 +62,7 @@ module _ {V : Type 0} (Found : Grammar → Grammar → Sheet → Result V Failur
   stopped (Passes Certificate number) p = absurd p
   stopped (Passes Work number) p = absurd p
   stopped (Passes Open number) p = absurd p
+  stopped (Passes (Pieces measure) number) p = absurd p
   stopped (Refused which.Document reason at) r = absurd r
   stopped (Refused which.Input reason at) r = record { refusal = r; found = λ i o s a b c. absurd (no_schema input i reason (see.place at) r a) }
   stopped (Refused which.Output reason at) r = record { refusal = r; found = λ i o s a b c. absurd (no_schema output o reason (see.place at) r.1 b) }

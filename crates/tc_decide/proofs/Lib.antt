@@ -6,12 +6,15 @@ pub mod Triples
 pub mod MachineLimits
 pub mod Found
 pub mod Deciding
+pub mod Meanings
 pub mod Proving
 pub mod Verifications
 pub mod Nothing
 pub mod Runs
 pub mod Compared
 pub mod ComparedTexts
+pub mod Judged
+pub mod InPieces
 pub mod TextsRead
 pub mod Using
 pub mod CopiedTrees

@@ -1,6 +1,6 @@
 -- What is proved decides: each proof and each failure by its cause, and the causes exclude one another.
 use Rattle.std.specs.Global.{Vec}
-use Rattle.std.proofs.Common.{◌≡◌, ◌<◌, ◌≤◌, ◌⊎◌, inl, inr, refl, ap, subst, ℕ, length, Result, Ok, Err, arith}
+use Rattle.std.proofs.Common.{◌≡◌, ◌<◌, ◌≤◌, ◌⊎◌, inl, inr, refl, ap, subst, ℕ, length, Result, Ok, Err, OnOk, arith}
 use Rattle.tc_cert.specs.Texts.{text, by_changes}
 use Rattle.tc_cert.specs.declared.text.CertWriteFault.{CertWriteFault}
 use Rattle.tc_cert.specs.declared.text.CertWriteFault.TheVariants as write
@@ -12,19 +12,19 @@ use Rattle.tc_close.specs.declared.proof.Proof.TheVariants as closed
 use Rattle.tc_close.proofs.Agreeing.{triples_agree}
 use Rattle.tc_close.proofs.OneCertificate.{one_certificate}
 use Rattle.tc_close.proofs.TooLong.{text_is_long}
-use Rattle.tc_decide.specs.Certificates.{OnCertified, IfRefuted, IsLeastOf, IsOverlong, long_text, long_outputs, HasShortCertificate, PassesInProof, DecidesProof, TellsLimit}
+use Rattle.tc_decide.specs.Certificates.{OnCertified, IfRefuted, IsLeastOf, IsOverlong, long_text, long_outputs, HasShortCertificate, PassesInProof, DecidesProof, DecidesProofWithin, TellsLimit, IsCountedProof}
 use Rattle.tc_decide.specs.Checking.{IsWithinTripleLimits, HasSmallCounter}
 use Rattle.tc_decide.specs.Deciding.{IsShownBy, KeepsAll, IsOutputOf}
 use Rattle.tc_decide.specs.TextsSeen.{of_close, of_write, IsProved}
 use Rattle.tc_decide.specs.declared.failure.Failure.{Failure}
 use Rattle.tc_decide.specs.declared.failure.Failure.TheVariants.{Refused, Passes, NoMemory}
 use Rattle.tc_decide.specs.declared.failure.Kind.{Kind}
-use Rattle.tc_decide.specs.declared.failure.Kind.TheVariants.{Texts, Rows, Nodes, Certificate, Work, Open}
+use Rattle.tc_decide.specs.declared.failure.Kind.TheVariants.{Texts, Rows, Nodes, Certificate, Work, Open, Pieces}
 use Rattle.tc_decide.specs.declared.limits.TheConstants.{LONGEST_CERTIFICATE, MOST_SHOWN_NODES}
 use Rattle.tc_decide.specs.declared.verdict.Output.{Output}
 use Rattle.tc_decide.specs.declared.verdict.Proof.{Proof}
 use Rattle.tc_decide.specs.declared.verdict.Proof.TheVariants.{Certified, Unsafe}
-use Rattle.tc_decide.proofs.Deciding.{not_both, not_kept, small_of, shown_by}
+use Rattle.tc_decide.proofs.Deciding.{not_both, not_kept, small_of, shown_by, fewest}
 use Rattle.tc_decide.proofs.Found.{FindsLimits}
 use Rattle.tc_decide.proofs.Triples.{itself, few_rows, least_counter}
 use Rattle.tc_model.specs.Grammars.{Grammar}
@@ -33,6 +33,7 @@ use Rattle.tc_model.specs.Sheets.{Sheet}
 use Rattle.tc_model.specs.Trees.{none}
 use Rattle.tc_model.specs.Views as see
 use Rattle.tc_model.specs.declared.lists.CertData.{CertData}
+use Rattle.tc_rows.specs.CertificateRows.{IsCertificateData}
 use Rattle.tc_rows.specs.Triples as t
 use Rattle.tc_rows.specs.Triples.{Triple, IsTriple}
 
@@ -55,6 +56,7 @@ module _ (most : ℕ) (i o : Grammar) (s : Sheet) where
   not_certified Nodes number p k safe c = not_kept most i o s Nodes number p k (inl safe)
   not_certified Work number p k safe c = not_kept most i o s Work number p k (inl safe)
   not_certified Open number p k safe c = not_kept most i o s Open number p k (inl safe)
+  not_certified (Pieces measure) number p k safe c = not_kept most i o s (Pieces measure) number p k (inl safe)
 
   not_refuted : (kind : Kind) (number : ℕ) → PassesInProof i o s most kind number → KeepsAll i o s most → HasSmallCounter i o s → ⊥
   not_refuted Certificate number p k small = not_both i o s p.1 small.1
@@ -63,8 +65,9 @@ module _ (most : ℕ) (i o : Grammar) (s : Sheet) where
   not_refuted Nodes number p k small = not_kept most i o s Nodes number p k (inr small)
   not_refuted Work number p k small = not_kept most i o s Work number p k (inr small)
   not_refuted Open number p k small = not_kept most i o s Open number p k (inr small)
+  not_refuted (Pieces measure) number p k small = not_kept most i o s (Pieces measure) number p k (inr small)
 
-  pub decides : (result : Result Proof Failure) → IsProved most i o s result → (result ≡ Err NoMemory) ⊎ DecidesProof i o s most result
+  pub decides : (result : Result Proof Failure) → IsProved most i o s result → (result ≡ Err NoMemory) ⊎ DecidesProofWithin i o s most result
   decides (Ok (Certified bytes)) (k, h, c, l) = inr (record {
     yes = (λ _. (k, h, c), λ _. tt);
     certificate = l;
@@ -105,6 +108,19 @@ module _ (most : ℕ) (i o : Grammar) (s : Sheet) where
   limits (Err (Passes kind number)) f = f
   limits (Err NoMemory) f = tt
 
+  pub counted : (result : Result Proof Failure) → IsProved most i o s result → IsCountedProof i o s most result
+  counted result f = record { limits = decides result f; number = limits result f }
+
+  pub proved : (result : Result Proof Failure) → IsProved most i o s result → OnOk result (DecidesProof i o s result)
+  proved (Ok (Certified bytes)) f = record { yes = (λ _. f.1, λ _. tt); certificate = f.3; no = (λ e. absurd e, λ x. absurd (not_both i o s f.1 x.1)); least = tt }
+  proved (Ok (Unsafe document output)) f = record {
+    yes = (λ e. absurd e, λ h. absurd (not_both i o s h f.1.counter));
+    certificate = tt;
+    no = (λ _. small_of most i o s f.1, λ _. tt);
+    least = (shown_by most i o s (see.before document none) output f.1.counter f.2, fewest most i o s f.1);
+  }
+  proved (Err failure) f = tt
+
 -- what is proved tells no refusal, and tells each limit that is passed before rows are tried
 pub proved_texts : (most : ℕ) → FindsLimits (IsProved most)
 proved_texts most = record { refused = λ i o s which reason at h. h; passed = λ i o s kind number p. p; memory = λ i o s. tt }
@@ -113,10 +129,10 @@ proved_texts most = record { refused = λ i o s which reason at h. h; passed = �
 
 module _ (x : Triple) (is : IsTriple x) (w : IsWithinTripleLimits x.input x.output (t.sheet x)) (most : ℕ) where
   -- the text of the least certificate, or why there is none
-  pub certified : (d : CertData) → IsSafeWithin x most → IsLeastCertificate x d → (bytes : Vec ℕ) → bytes.items ≡ text by_changes d → length bytes.items ≤ LONGEST_CERTIFICATE
+  pub certified : (d : CertData) → IsSafeWithin x most → IsLeastCertificate x d → IsCertificateData x d → (bytes : Vec ℕ) → bytes.items ≡ text by_changes d → length bytes.items ≤ LONGEST_CERTIFICATE
       → IsProved most x.input x.output (t.sheet x) (Ok (Certified bytes))
-  certified d h l bytes same short =
-      ((w, few_rows x is h.keeps), h.safe, (d, (x, itself x is, l), subst (λ k. length k ≤ LONGEST_CERTIFICATE) same short), (d, (x, itself x is, l), same))
+  certified d h l cert bytes same short =
+      ((w, few_rows x is h.keeps), h.safe, (d, (x, itself x is, l), subst (λ k. length k ≤ LONGEST_CERTIFICATE) same short), (d, (x, itself x is, l), (x, itself x is, cert), short, same))
 
   pub unwritten : (d : CertData) → IsSafeWithin x most → IsLeastCertificate x d → (fault : CertWriteFault) → (fault ≡ write.TooLong → LONGEST_CERTIFICATE < length (text by_changes d))
       → IsProved most x.input x.output (t.sheet x) (Err (of_write fault))

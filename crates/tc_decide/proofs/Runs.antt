@@ -10,7 +10,7 @@ use Rattle.tc_decide.specs.TextsSeen.{of_limit, IsRefusalOf}
 use Rattle.tc_decide.specs.declared.failure.Failure.{Failure}
 use Rattle.tc_decide.specs.declared.failure.Failure.TheVariants.{Refused, Passes, NoMemory}
 use Rattle.tc_decide.specs.declared.failure.Kind.{Kind}
-use Rattle.tc_decide.specs.declared.failure.Kind.TheVariants.{Texts, Rows, Nodes, Certificate, Work, Open}
+use Rattle.tc_decide.specs.declared.failure.Kind.TheVariants.{Texts, Rows, Nodes, Certificate, Work, Open, Pieces}
 use Rattle.tc_decide.specs.declared.failure.Which.{Which}
 use Rattle.tc_decide.specs.declared.failure.Which.TheVariants as which
 use Rattle.tc_decide.specs.declared.machine.LimitFault.{LimitFault}
@@ -39,6 +39,7 @@ module _ (s : Sheet) (d : Trees) where
   not_within (Rows count) number p w = absurd p
   not_within Nodes number p w = absurd p
   not_within Certificate number p w = absurd p
+  not_within (Pieces measure) number p w = absurd p
 
   pub run_decides : (answer : RunAnswer) → IsRun s d answer → (answer ≡ Err NoMemory) ⊎ DecidesRun s d answer
   run_decides (Ok nodes) (w, r) = inr (record { yes = (λ _. w, λ _. tt); limit = (λ e. absurd e, λ (kind, number, p). absurd (not_within kind number p w)) })

@@ -22,7 +22,7 @@ use Rattle.tc_read.specs.Sheets.{IsSheetOf}
 use Rattle.tc_read.specs.declared.faults.Reason.{Reason}
 use Rattle.tc_read.specs.declared.faults.Reason.TheVariants.{Malformed, Unsupported, TooDeep, Undefined, Twice, Loop, BadStart, BadExcept, CallLoop}
 use Rattle.tc_run.specs.Limits.{KeepsLimits}
-use Rattle.tc_run.specs.Spent.{most_work, most_open}
+use Rattle.tc_base.specs.declared.limits.TheConstants.{MOST_WORK, MOST_OPEN}
 use Rattle.tc_sheet.specs.Changes.{Change, mended, flattened, both}
 use Rattle.tc_sheet.specs.Faults.{IsNoneWith}
 use Rattle.tc_sheet.proofs.Changes.{as_they_are}
@@ -59,11 +59,11 @@ one_sheet_of {bytes} {s} {t} x y = one_sheet y.raw s t (means_at x y.raw y.text)
 one_outcome : (s : Sheet) (d : Trees) (o p : Outcome) → Transforms s d o → Transforms s d p → o ≡ p
 one_outcome s d o p t u = instantiates_unique s (by_mode 0) (top d) o p t u
 
-pub over_work : (s : Sheet) (d : Trees) (o : Outcome) → Transforms s d o → most_work < o.work → KeepsLimits s d → ⊥
-over_work s d o t p k = let few = subst (λ (x : Outcome). x.work ≤ most_work) (one_outcome s d k.0 o k.1 t) k.2 in omega (arith, p, few)
+pub over_work : (s : Sheet) (d : Trees) (o : Outcome) → Transforms s d o → MOST_WORK < o.work → KeepsLimits s d → ⊥
+over_work s d o t p k = let few = subst (λ (x : Outcome). x.work ≤ MOST_WORK) (one_outcome s d k.0 o k.1 t) k.2 in omega (arith, p, few)
 
-pub over_open : (s : Sheet) (d : Trees) (o : Outcome) → Transforms s d o → most_open < o.nesting → KeepsLimits s d → ⊥
-over_open s d o t p k = let low = subst (λ (x : Outcome). x.nesting ≤ most_open) (one_outcome s d k.0 o k.1 t) k.3 in omega (arith, p, low)
+pub over_open : (s : Sheet) (d : Trees) (o : Outcome) → Transforms s d o → MOST_OPEN < o.nesting → KeepsLimits s d → ⊥
+over_open s d o t p k = let low = subst (λ (x : Outcome). x.nesting ≤ MOST_OPEN) (one_outcome s d k.0 o k.1 t) k.3 in omega (arith, p, low)
 
 pub one_result : (s : Sheet) (d r q : Trees) → IsResultOf s d r → IsResultOf s d q → r ≡ q
 one_result s d r q x y = x.2 ∙ (ap (λ (o : Outcome). normal_form o.out) (one_outcome s d x.0 y.0 x.1 y.1) ∙ sym y.2)

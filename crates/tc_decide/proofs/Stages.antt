@@ -16,7 +16,7 @@ use Rattle.tc_decide.specs.RowCounts.{row_count}
 use Rattle.tc_decide.specs.declared.failure.Failure.{Failure}
 use Rattle.tc_decide.specs.declared.failure.Failure.TheVariants.{Refused, Passes, NoMemory}
 use Rattle.tc_decide.specs.declared.failure.Kind.{Kind}
-use Rattle.tc_decide.specs.declared.failure.Kind.TheVariants.{Texts, Rows, Nodes, Certificate, Work, Open}
+use Rattle.tc_decide.specs.declared.failure.Kind.TheVariants.{Texts, Rows, Nodes, Certificate, Work, Open, Pieces}
 use Rattle.tc_decide.specs.declared.limits.TheConstants.{MOST_ROWS}
 use Rattle.tc_decide.proofs.Passing.{over_schema, over_sheet, over_triple}
 use Rattle.tc_decide.proofs.SpotLimits.{sheet_kept_too}
@@ -87,6 +87,7 @@ module _ (i : Grammar) (s : Sheet) (p : Spot) where
   reaches (Passes Certificate number) x n h = absurd x.1
   reaches (Passes Work number) x n h = absurd x.1
   reaches (Passes Open number) x n h = absurd x.1
+  reaches (Passes (Pieces measure) number) x n h = absurd x.1
   reaches (Refused which reason at) x n h = absurd x
   reaches NoMemory x n h = record { sheet = λ l. absurd (omega (arith, h, l)); calls = λ l. absurd (omega (arith, h, l)); all = λ l. absurd (omega (arith, h, l)) }
 
@@ -172,6 +173,7 @@ module _ (i : Grammar) (s : Sheet) (ps : List Spot) where
     grow_better (Passes kind number) (Passes Certificate n) x y h = absurd y.1
     grow_better (Passes kind number) (Passes Work n) x y h = absurd y.1
     grow_better (Passes kind number) (Passes Open n) x y h = absurd y.1
+    grow_better (Passes kind number) (Passes (Pieces measure) n) x y h = absurd y.1
     grow_better (Passes kind number) (Refused which reason at) x y h = absurd y
     grow_better (Passes kind number) NoMemory x y h = tt
     grow_better (Refused which reason at) here x y h = absurd x
@@ -197,6 +199,7 @@ module _ (i : Grammar) (s : Sheet) (ps : List Spot) where
     first_stop (Passes Certificate n) kept y = absurd y.1
     first_stop (Passes Work n) kept y = absurd y.1
     first_stop (Passes Open n) kept y = absurd y.1
+    first_stop (Passes (Pieces measure) n) kept y = absurd y.1
     first_stop (Refused which reason at) kept y = absurd y
     first_stop NoMemory kept y = tt
 

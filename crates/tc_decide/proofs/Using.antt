@@ -15,7 +15,7 @@ use Rattle.tc_decide.specs.DeadSpotsSeen.{IsTelling, IsToldByRows, IsToldOf, Sto
 use Rattle.tc_decide.specs.TextsSeen.{of_close}
 use Rattle.tc_decide.specs.declared.failure.Failure.{Failure}
 use Rattle.tc_decide.specs.declared.failure.Failure.TheVariants.{Refused, Passes, NoMemory}
-use Rattle.tc_decide.specs.declared.failure.Kind.TheVariants.{Texts, Rows, Nodes, Certificate, Work, Open}
+use Rattle.tc_decide.specs.declared.failure.Kind.TheVariants.{Texts, Rows, Nodes, Certificate, Work, Open, Pieces}
 use Rattle.tc_decide.specs.declared.limits.TheConstants.{MOST_ROWS}
 use Rattle.tc_decide.specs.declared.spots.Told.{Told}
 use Rattle.tc_decide.specs.declared.spots.Told.TheVariants.{Dead, Used, UsedTooLarge}
@@ -71,6 +71,7 @@ stopped_by i s p (Passes Nodes number) x = absurd x
 stopped_by i s p (Passes Certificate number) x = absurd x
 stopped_by i s p (Passes Work number) x = absurd x
 stopped_by i s p (Passes Open number) x = absurd x
+stopped_by i s p (Passes (Pieces measure) number) x = absurd x
 stopped_by i s p (Refused which reason at) x = absurd x
 stopped_by i s p NoMemory x = tt
 

@@ -17,7 +17,7 @@ use Rattle.tc_decide.specs.Verified.{OnAccepted, IsCertificateText, DecidesCerti
 use Rattle.tc_decide.specs.VerifiedSeen.{IsVerified, IsVerifiedAs, IsNoForm, IsWrittenAnew}
 use Rattle.tc_decide.specs.declared.failure.Failure.{Failure}
 use Rattle.tc_decide.specs.declared.failure.Failure.TheVariants.{Refused, Passes, NoMemory}
-use Rattle.tc_decide.specs.declared.failure.Kind.TheVariants.{Texts, Rows, Nodes, Certificate, Work, Open}
+use Rattle.tc_decide.specs.declared.failure.Kind.TheVariants.{Texts, Rows, Nodes, Certificate, Work, Open, Pieces}
 use Rattle.tc_decide.specs.declared.limits.TheConstants.{LONGEST_CERTIFICATE}
 use Rattle.tc_decide.specs.declared.verdict.Upgrade.{Upgrade}
 use Rattle.tc_decide.specs.declared.verdict.Upgrade.TheVariants.{Text, Malformed}
@@ -93,6 +93,7 @@ module _ (bytes : List ℕ) (i o : Grammar) (s : Sheet) where
   limits (Err (Passes Certificate number)) f = absurd f
   limits (Err (Passes Work number)) f = absurd f
   limits (Err (Passes Open number)) f = absurd f
+  limits (Err (Passes (Pieces measure) number)) f = absurd f
   limits (Err NoMemory) f = tt
 
   pub decides : length bytes ≤ longest_text → (result : Result Verification Failure) → IsVerified bytes i o s result → (result ≡ Err NoMemory) ⊎ DecidesCertificate i o s bytes result
@@ -120,6 +121,7 @@ module _ (bytes : List ℕ) (i o : Grammar) (s : Sheet) where
   decides h (Err (Passes Certificate number)) f = absurd f
   decides h (Err (Passes Work number)) f = absurd f
   decides h (Err (Passes Open number)) f = absurd f
+  decides h (Err (Passes (Pieces measure) number)) f = absurd f
   decides h (Err NoMemory) f = inl refl
 
 -- what is verified tells no refusal, and tells each limit that is passed before rows are tried
@@ -161,6 +163,7 @@ module _ (bytes : List ℕ) (h : length bytes ≤ longest_text) where
   upgrade_decides (Err (Passes Nodes number)) f = absurd f
   upgrade_decides (Err (Passes Work number)) f = absurd f
   upgrade_decides (Err (Passes Open number)) f = absurd f
+  upgrade_decides (Err (Passes (Pieces measure) number)) f = absurd f
   upgrade_decides (Err NoMemory) f = inl refl
 
   pub upgrade_limits : (result : Result Upgrade Failure) → IsWrittenAnew bytes result → TellsUpgradeLimit bytes result
@@ -172,4 +175,5 @@ module _ (bytes : List ℕ) (h : length bytes ≤ longest_text) where
   upgrade_limits (Err (Passes Nodes number)) f = absurd f
   upgrade_limits (Err (Passes Work number)) f = absurd f
   upgrade_limits (Err (Passes Open number)) f = absurd f
+  upgrade_limits (Err (Passes (Pieces measure) number)) f = absurd f
   upgrade_limits (Err NoMemory) f = tt

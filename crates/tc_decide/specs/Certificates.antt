@@ -1,10 +1,11 @@
 -- Certificates of two schemas and a stylesheet, and what is proved of their texts.
-use Rattle.std.specs.Prelude.{◌≡◌, ◌<◌, ◌≤◌, ◌↔◌, ℕ, List, length, Result, Ok, Err}
+use Rattle.std.specs.Prelude.{◌≡◌, ◌<◌, ◌≤◌, ◌⊎◌, ◌↔◌, ℕ, List, length, Result, Ok, Err}
 use Rattle.tc_cert.specs.Texts.{text, by_changes}
 use Rattle.tc_close.specs.Certified.{IsLeastCertificate, IsTooLong}
 use Rattle.tc_close.specs.Triples.{IsTripleOf}
-use Rattle.tc_decide.specs.Checking.{IsLeastCounter, HasSmallCounter}
-use Rattle.tc_decide.specs.Deciding.{KeepsAll, PassesFirst, IsOutputOf}
+use Rattle.tc_decide.specs.Checking.{IsLeastCounter, HasFewestNodes, HasSmallCounter}
+use Rattle.tc_decide.specs.Deciding.{IsShownBy, KeepsAll, PassesFirst, IsOutputOf}
+use Rattle.tc_decide.specs.Told.{IsToldLimit}
 use Rattle.tc_decide.specs.declared.failure.Failure.{Failure}
 use Rattle.tc_decide.specs.declared.failure.Failure.TheVariants.{Refused, Passes, NoMemory}
 use Rattle.tc_decide.specs.declared.failure.Kind.{Kind}
@@ -45,11 +46,6 @@ abbrev pub IsRefuted : Result Proof Failure → Type 0
 IsRefuted (Ok (Unsafe document output)) = Unit {0}
 IsRefuted _ = ⊥
 
--- a limit is told
-abbrev pub IsLimited : Result Proof Failure → Type 0
-IsLimited (Err (Passes kind number)) = Unit {0}
-IsLimited _ = ⊥
-
 module _ (i o : Grammar) (s : Sheet) where
   -- Well-formed schemas and a well-formed stylesheet within the limits of the stylesheet have a triple, and all of theirs have the same rows: law_of_triples of tc_close.
 
@@ -70,9 +66,16 @@ module _ (i o : Grammar) (s : Sheet) where
   abbrev pub HasShortCertificate : Type 0
   HasShortCertificate = (d : CertData) × IsLeastOf d × (length (text by_changes d) ≤ LONGEST_CERTIFICATE)
 
-  -- this is the text of the certificate with exactly the rows of what is live
+  -- this is the text of the certificate with exactly the rows of what is live, which is one of safety and isn't too long
   abbrev pub IsTextOfLeast : List ℕ → Type 0
-  IsTextOfLeast bytes = (d : CertData) × IsLeastOf d × (bytes ≡ text by_changes d)
+  IsTextOfLeast bytes = (d : CertData) × IsLeastOf d × IsCertificateOf d × (length bytes ≤ LONGEST_CERTIFICATE) × (bytes ≡ text by_changes d)
+
+  -- as a check, but that where it is yes there is a certificate, whose text is given
+  pub record DecidesProof (result : Result Proof Failure) : Type 0 where
+    pub yes : IsCertified result ↔ IsSafe i o s
+    pub certificate : IfCertified result IsTextOfLeast
+    pub no : IsRefuted result ↔ HasSmallCounter i o s
+    pub least : IfRefuted result (λ document output. IsShownBy i o s document output × HasFewestNodes i o s document)
 
   module _ (most : ℕ) where
     -- this is passed, which has this number, and nothing that is tried before it: as of a check, and then the length of the certificate's text
@@ -80,13 +83,13 @@ module _ (i o : Grammar) (s : Sheet) where
     PassesInProof Certificate number = KeepsAll i o s most × IsSafe i o s × IsOverlong × (number ≡ LONGEST_CERTIFICATE)
     PassesInProof kind number = PassesFirst i o s most kind number
 
-    -- as a check, but that where it is yes there is a certificate that isn't too long, whose text is given
-    pub record DecidesProof (result : Result Proof Failure) : Type 0 where
+    -- so by limits, that of the certificate's length among them
+    pub record DecidesProofWithin (result : Result Proof Failure) : Type 0 where
       pub yes : IsCertified result ↔ (KeepsAll i o s most × IsSafe i o s × HasShortCertificate)
       pub certificate : IfCertified result IsTextOfLeast
       pub no : IsRefuted result ↔ (KeepsAll i o s most × HasSmallCounter i o s)
       pub least : IfRefuted result (λ document output. IsLeastCounter i o s document × IsOutputOf s document output)
-      pub limit : IsLimited result ↔ ((kind : Kind) × (number : ℕ) × PassesInProof kind number)
+      pub limit : IsToldLimit result ↔ ((kind : Kind) × (number : ℕ) × PassesInProof kind number)
 
     -- the limit that a failure tells
     abbrev pub TellsLimit : Result Proof Failure → Type 0
@@ -94,3 +97,8 @@ module _ (i o : Grammar) (s : Sheet) where
     TellsLimit (Err (Refused which reason at)) = Unit {0}
     TellsLimit (Err (Passes kind number)) = PassesInProof kind number
     TellsLimit (Err NoMemory) = Unit {0}
+
+    -- all of it, unless memory is refused
+    pub record IsCountedProof (result : Result Proof Failure) : Type 0 where
+      pub limits : (result ≡ Err NoMemory) ⊎ DecidesProofWithin result
+      pub number : TellsLimit result

@@ -2,7 +2,7 @@
 use Rattle.std.specs.Prelude.{◌<◌, ◌≤◌, ◌⊎◌, ℕ}
 use Rattle.tc_base.specs.declared.Limit.{Limit}
 use Rattle.tc_base.specs.declared.Limit.TheVariants.{Calls, Entries}
-use Rattle.tc_base.specs.declared.limits.TheConstants.{MOST_INPUT_STATES, MOST_OUTPUT_STATES, DEEPEST_CALLS, MOST_ENTRIES}
+use Rattle.tc_base.specs.declared.limits.TheConstants.{MOST_INPUT_STATES, MOST_OUTPUT_STATES, DEEPEST_CALLS, MOST_ENTRIES, MOST_WORK, MOST_OPEN}
 use Rattle.tc_close.specs.Triples.{IsTripleOf}
 use Rattle.tc_model.specs.Grammars.{Grammar}
 use Rattle.tc_model.specs.Outcomes.{Outcome}
@@ -14,7 +14,6 @@ use Rattle.tc_model.specs.Trees.{Trees, node_count}
 use Rattle.tc_rows.specs.Counts.{Counts, Pass, IsRowOfLiveTree, IsRowOfLiveHedge, IsOutput, PassCalls, PassEntries}
 use Rattle.tc_rows.specs.Derivations.{ArePlain}
 use Rattle.tc_rows.specs.Triples.{Triple}
-use Rattle.tc_run.specs.Spent.{most_work, most_open}
 use Rattle.tc_decide.specs.Limits.{IsWithinLimits, PassesLimit, IsWithinSheetLimits, SheetPasses}
 use Rattle.tc_decide.specs.RowCounts.{RowCount, trees, hedges, outputs}
 use Rattle.tc_decide.specs.declared.limits.TheConstants.{MOST_OUTPUTS, MOST_SHOWN_NODES}
@@ -83,6 +82,11 @@ module _ (i o : Grammar) (s : Sheet) where
     pub few : node_count document ≤ MOST_SHOWN_NODES
     pub least : (other : Trees) → IsCounter other → node_count document ≤ node_count other
 
+  -- it has few enough nodes to be shown, and no counterexample has fewer
+  pub record HasFewestNodes (document : Trees) : Type 0 where
+    pub few : node_count document ≤ MOST_SHOWN_NODES
+    pub least : (other : Trees) → IsCounter other → node_count document ≤ node_count other
+
   -- some counterexample can be shown
   abbrev pub HasSmallCounter : Type 0
   HasSmallCounter = (document : Trees) × IsCounter document × (node_count document ≤ MOST_SHOWN_NODES)
@@ -94,4 +98,4 @@ module _ (i o : Grammar) (s : Sheet) where
 
 -- the run of the stylesheet on the document passes a limit
 abbrev pub IsLargeRun : Sheet → Trees → Type 0
-IsLargeRun s document = (o : Outcome) × Transforms s document o × ((most_work < o.work) ⊎ (most_open < o.nesting))
+IsLargeRun s document = (o : Outcome) × Transforms s document o × ((MOST_WORK < o.work) ⊎ (MOST_OPEN < o.nesting))

@@ -6,10 +6,11 @@ use Rattle.tc_base.specs.declared.limits.TheConstants.{MOST_INPUT_STATES, MOST_S
 use Rattle.tc_decide.specs.Limits.{IsWithinLimits, PassesLimit, AreFew, symbols_of_mentions}
 use Rattle.tc_decide.specs.RowCounts.{RowCount, trees, hedges, row_count}
 use Rattle.tc_decide.specs.Texts.{IsSpelled, IsRefused}
+use Rattle.tc_decide.specs.Told.{IsToldLimit}
 use Rattle.tc_decide.specs.declared.failure.Failure.{Failure}
 use Rattle.tc_decide.specs.declared.failure.Failure.TheVariants.{Refused, Passes, NoMemory}
 use Rattle.tc_decide.specs.declared.failure.Kind.{Kind}
-use Rattle.tc_decide.specs.declared.failure.Kind.TheVariants.{Texts, Rows, Nodes, Certificate, Work, Open}
+use Rattle.tc_decide.specs.declared.failure.Kind.TheVariants.{Texts, Rows, Nodes}
 use Rattle.tc_decide.specs.declared.failure.Which.{Which}
 use Rattle.tc_decide.specs.declared.failure.Which.TheVariants as which
 use Rattle.tc_decide.specs.declared.limits.TheConstants.{MOST_ROWS, MOST_SHOWN_NODES}
@@ -98,10 +99,6 @@ IfShown (Ok (FirstOnly document)) P = P (before document none)
 IfShown (Ok (SecondOnly document)) P = P (before document none)
 IfShown _ P = Unit {0}
 
-abbrev pub IsPairLimit : {V : Type 0} → Result V Failure → Type 0
-IsPairLimit (Err (Passes kind number)) = Unit {0}
-IsPairLimit _ = ⊥
-
 module _ (a b : Grammar) where
   -- the symbols of both
   abbrev pub symbols_of_both : List Mention
@@ -177,9 +174,7 @@ module _ (a b : Grammar) where
     PassesComparison (Texts kind) number = PassesPairLimit kind number
     PassesComparison (Rows count) number = AreWithinPairLimits × AreTooMany question (row_count count) × (number ≡ MOST_ROWS)
     PassesComparison Nodes number = AreKept question × HasLargeRefutations × (number ≡ MOST_SHOWN_NODES)
-    PassesComparison Certificate number = ⊥
-    PassesComparison Work number = ⊥
-    PassesComparison Open number = ⊥
+    PassesComparison _ number = ⊥
 
     abbrev pub HasPassed : Type 0
     HasPassed = (kind : Kind) × (number : ℕ) × PassesComparison kind number
@@ -201,14 +196,14 @@ module _ (a b : Grammar) where
     pub yes : IsToldIncluded result ↔ (AreKept inclusion × IsSo inclusion)
     pub no : IsToldNot result ↔ (AreKept inclusion × HasSmallRefutation inclusion)
     pub least : IfNotIncluded result (λ document. IsLeastRefutation inclusion document × IsShown document)
-    pub limit : IsPairLimit result ↔ HasPassed inclusion
+    pub limit : IsToldLimit result ↔ HasPassed inclusion
 
   -- so of equality
   pub record DecidesEquality (result : Result Equality Failure) : Type 0 where
     pub yes : IsToldSame result ↔ (AreKept equality × IsSo equality)
     pub no : IsToldDifferent result ↔ (AreKept equality × HasSmallRefutation equality)
     pub least : IfShown result (λ document. IsLeastRefutation equality document × IsShown document)
-    pub limit : IsPairLimit result ↔ HasPassed equality
+    pub limit : IsToldLimit result ↔ HasPassed equality
 
   -- the numbers of rows where it is included, and the limit that a failure tells
   abbrev pub TellsInclusionCounts : Result Inclusion Failure → Type 0

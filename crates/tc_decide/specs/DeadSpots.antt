@@ -13,10 +13,11 @@ use Rattle.tc_decide.specs.Checking.{most_of, IsWithinTripleLimits, PassesTriple
 use Rattle.tc_decide.specs.Limits.{IsWithinLimits, IsWithinSheetLimits}
 use Rattle.tc_decide.specs.RowCounts.{row_count}
 use Rattle.tc_decide.specs.Texts.{IsSpelled, IsRefused}
+use Rattle.tc_decide.specs.Told.{IsToldLimit}
 use Rattle.tc_decide.specs.declared.failure.Failure.{Failure}
 use Rattle.tc_decide.specs.declared.failure.Failure.TheVariants.{Refused, Passes, NoMemory}
 use Rattle.tc_decide.specs.declared.failure.Kind.{Kind}
-use Rattle.tc_decide.specs.declared.failure.Kind.TheVariants.{Texts, Rows, Nodes, Certificate, Work, Open}
+use Rattle.tc_decide.specs.declared.failure.Kind.TheVariants.{Texts, Rows, Nodes, Certificate, Work, Open, Pieces}
 use Rattle.tc_decide.specs.declared.failure.Which.{Which}
 use Rattle.tc_decide.specs.declared.failure.Which.TheVariants as which
 use Rattle.tc_decide.specs.declared.limits.TheConstants.{MOST_ROWS, MOST_SHOWN_NODES}
@@ -68,10 +69,6 @@ abbrev pub IfPassed : Answer → (Kind → ℕ → Type 0) → Type 0
 IfPassed (Err (Passes kind number)) P = P kind number
 IfPassed _ P = Unit {0}
 
-abbrev pub IsPassed : Answer → Type 0
-IsPassed (Err (Passes kind number)) = Unit {0}
-IsPassed _ = ⊥
-
 -- where a spot is told to be dead, this holds
 abbrev pub OnDead : Told → Type 0 → Type 0
 OnDead Dead P = P
@@ -110,6 +107,7 @@ stage Nodes = 4
 stage Certificate = 4
 stage Work = 4
 stage Open = 4
+stage (Pieces measure) = 4
 
 module _ (i : Grammar) (s : Sheet) (p : Spot) where
   -- a valid document that instantiates the spot
@@ -181,6 +179,6 @@ module _ (i : Grammar) (s : Sheet) where
     pub answered : IsAnswered answer ↔ KeepSpots i s (spots_of s)
     pub spots : IfOk answer (λ told. map (λ t. seen t.spot) told.now ≡ spots_of s)
     pub each : IfOk answer (λ told. All (λ t. TellsSpot i s (seen t.spot) t.told) told.now)
-    pub limit : IsPassed answer ↔ ((kind : Kind) × (number : ℕ) × PassSpots i s (spots_of s) kind number)
+    pub limit : IsToldLimit answer ↔ ((kind : Kind) × (number : ℕ) × PassSpots i s (spots_of s) kind number)
     pub passed : IfPassed answer (PassSpots i s (spots_of s))
     pub first : IfPassed answer (λ told number. (kind : Kind) (n : ℕ) → PassSpots i s (spots_of s) kind n → stage kind ≡ stage told)

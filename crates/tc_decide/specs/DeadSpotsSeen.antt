@@ -13,7 +13,7 @@ use Rattle.tc_decide.specs.Texts.{Spells, IsSchemaOf}
 use Rattle.tc_decide.specs.declared.failure.Failure.{Failure}
 use Rattle.tc_decide.specs.declared.failure.Failure.TheVariants.{Refused, Passes, NoMemory}
 use Rattle.tc_decide.specs.declared.failure.Kind.{Kind}
-use Rattle.tc_decide.specs.declared.failure.Kind.TheVariants.{Texts, Rows, Nodes, Certificate, Work, Open}
+use Rattle.tc_decide.specs.declared.failure.Kind.TheVariants.{Texts, Rows, Nodes, Certificate, Work, Open, Pieces}
 use Rattle.tc_decide.specs.declared.limits.TheConstants.{MOST_ROWS}
 use Rattle.tc_decide.specs.declared.schemas.SchemaText.{SchemaText}
 use Rattle.tc_decide.specs.declared.spots.Marking.{Marking}
@@ -35,6 +35,7 @@ IsBeforeNodes Nodes = ⊥
 IsBeforeNodes Certificate = ⊥
 IsBeforeNodes Work = ⊥
 IsBeforeNodes Open = ⊥
+IsBeforeNodes (Pieces measure) = ⊥
 
 abbrev pub stage_of : Failure → ℕ
 stage_of (Passes kind number) = stage kind

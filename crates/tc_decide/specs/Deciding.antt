@@ -1,12 +1,13 @@
 -- What is decided of the texts of two schemas and a stylesheet.
-use Rattle.std.specs.Prelude.{◌≡◌, ◌↔◌, ℕ, List, Result, Ok, Err}
-use Rattle.tc_decide.specs.Checking.{most_of, IsWithinTripleLimits, PassesTripleLimit, HasManyRows, HasFewRows, AreRowCounts, IsLeastCounter, HasSmallCounter, HasLargeCounters, IsLargeRun}
+use Rattle.std.specs.Prelude.{◌≡◌, ◌⊎◌, ◌↔◌, ℕ, List, Result, Ok, Err}
+use Rattle.tc_decide.specs.Checking.{most_of, IsWithinTripleLimits, PassesTripleLimit, HasManyRows, HasFewRows, AreRowCounts, IsLeastCounter, HasFewestNodes, HasSmallCounter, HasLargeCounters, IsLargeRun}
 use Rattle.tc_decide.specs.RowCounts.{row_count}
 use Rattle.tc_decide.specs.Texts.{IsSpelled, IsRefused}
+use Rattle.tc_decide.specs.Told.{IsToldLimit}
 use Rattle.tc_decide.specs.declared.failure.Failure.{Failure}
 use Rattle.tc_decide.specs.declared.failure.Failure.TheVariants.{Refused, Passes, NoMemory}
 use Rattle.tc_decide.specs.declared.failure.Kind.{Kind}
-use Rattle.tc_decide.specs.declared.failure.Kind.TheVariants.{Texts, Rows, Nodes, Certificate, Work, Open}
+use Rattle.tc_decide.specs.declared.failure.Kind.TheVariants.{Texts, Rows, Nodes}
 use Rattle.tc_decide.specs.declared.failure.Which.{Which}
 use Rattle.tc_decide.specs.declared.failure.Which.TheVariants as which
 use Rattle.tc_decide.specs.declared.schemas.SchemaText.{SchemaText}
@@ -42,11 +43,6 @@ IsYes _ = ⊥
 abbrev pub IsNo : Result Verdict Failure → Type 0
 IsNo (Ok (Unsafe document output)) = Unit {0}
 IsNo _ = ⊥
-
--- a limit is told
-abbrev pub IsLimit : Result Verdict Failure → Type 0
-IsLimit (Err (Passes kind number)) = Unit {0}
-IsLimit _ = ⊥
 
 -- the texts spell schemas and a stylesheet
 pub record AreAccepted (input output : SchemaText) (sheet : List ℕ) : Type 0 where
@@ -84,23 +80,27 @@ module _ (i o : Grammar) (s : Sheet) where
   PassesFirst most (Texts kind) number = PassesTripleLimit i o s kind number
   PassesFirst most (Rows count) number = IsWithinTripleLimits i o s × HasManyRows i o s most (row_count count) × (number ≡ most_of most (row_count count))
   PassesFirst most Nodes number = KeepsAll most × HasLargeCounters i o s × (number ≡ MOST_SHOWN_NODES)
-  PassesFirst most Certificate number = ⊥
-  PassesFirst most Work number = ⊥
-  PassesFirst most Open number = ⊥
+  PassesFirst most _ number = ⊥
 
 -- the result, exactly where the run keeps to its limits
 abbrev pub IsOutputOf : Sheet → Trees → Output → Type 0
 IsOutputOf s document (Shown output) = KeepsLimits s document × IsResultOf s document (trees output.now)
 IsOutputOf s document TooLarge = IsLargeRun s document
 
+-- Yes exactly where the stylesheet is safe; no exactly where some counterexample can be shown, with one of the fewest nodes and its result.
+pub record DecidesSafety (i o : Grammar) (s : Sheet) (result : Result Verdict Failure) : Type 0 where
+  pub yes : IsYes result ↔ IsSafe i o s
+  pub no : IsNo result ↔ HasSmallCounter i o s
+  pub least : IfUnsafe result (λ document output. IsShownBy i o s document output × HasFewestNodes i o s document)
+
 module _ (most : ℕ) (i o : Grammar) (s : Sheet) where
-  -- Yes exactly where no limit is passed and the stylesheet is safe; no exactly where none is passed and some counterexample can be shown, with one of
-  -- the fewest nodes and its result; and else a failure: a limit, exactly where one is passed.
-  pub record DecidesSafety (result : Result Verdict Failure) : Type 0 where
+  -- So by limits: yes exactly where none is passed and the stylesheet is safe; no exactly where none is passed and some counterexample can be shown, with a
+  -- plain one of the fewest nodes, and its result exactly where its run keeps to the limits; and else a limit, exactly where one is passed.
+  pub record DecidesWithin (result : Result Verdict Failure) : Type 0 where
     pub yes : IsYes result ↔ (KeepsAll i o s most × IsSafe i o s)
     pub no : IsNo result ↔ (KeepsAll i o s most × HasSmallCounter i o s)
     pub least : IfUnsafe result (λ document output. IsLeastCounter i o s document × IsOutputOf s document output)
-    pub limit : IsLimit result ↔ ((kind : Kind) × (number : ℕ) × PassesFirst i o s most kind number)
+    pub limit : IsToldLimit result ↔ ((kind : Kind) × (number : ℕ) × PassesFirst i o s most kind number)
 
   -- the numbers of rows of a yes, and the limit that a failure tells
   abbrev pub TellsCounts : Result Verdict Failure → Type 0
@@ -109,3 +109,8 @@ module _ (most : ℕ) (i o : Grammar) (s : Sheet) where
   TellsCounts (Err (Refused which reason at)) = Unit {0}
   TellsCounts (Err (Passes kind number)) = PassesFirst i o s most kind number
   TellsCounts (Err NoMemory) = Unit {0}
+
+  -- all of it, unless memory is refused
+  pub record IsCounted (result : Result Verdict Failure) : Type 0 where
+    pub limits : (result ≡ Err NoMemory) ⊎ DecidesWithin result
+    pub numbers : TellsCounts result

@@ -1,6 +1,7 @@
 pub mod Texts
 pub mod Limits
 pub mod RowCounts
+pub mod Told
 pub mod Checking
 pub mod MachinesSeen
 pub mod Deciding
@@ -14,5 +15,9 @@ pub mod Running
 pub mod RunningSeen
 pub mod Comparing
 pub mod ComparingSeen
+pub mod Validating
+pub mod ValidatingSeen
+pub mod Pieces
+pub mod PiecesSeen
 pub mod DeadSpots
 pub mod DeadSpotsSeen

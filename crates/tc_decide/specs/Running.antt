@@ -3,10 +3,11 @@ use Rattle.std.specs.Prelude.{◌≡◌, ◌<◌, ◌↔◌, ℕ, List, Result, 
 use Rattle.std.specs.Borrow.{Bor}
 use Rattle.tc_base.specs.declared.limits.TheConstants.{MOST_WORK, MOST_OPEN}
 use Rattle.tc_decide.specs.Limits.{symbols_of_sheet, IsWithinSheetLimits, SheetPasses, IsRunWithin}
+use Rattle.tc_decide.specs.Told.{IsToldLimit}
 use Rattle.tc_decide.specs.declared.failure.Failure.{Failure}
 use Rattle.tc_decide.specs.declared.failure.Failure.TheVariants.{Refused, Passes, NoMemory}
 use Rattle.tc_decide.specs.declared.failure.Kind.{Kind}
-use Rattle.tc_decide.specs.declared.failure.Kind.TheVariants.{Texts, Rows, Nodes, Certificate, Work, Open}
+use Rattle.tc_decide.specs.declared.failure.Kind.TheVariants.{Texts, Work, Open}
 use Rattle.tc_decide.specs.declared.failure.Which.{Which}
 use Rattle.tc_decide.specs.declared.failure.Which.TheVariants as which
 use Rattle.tc_model.specs.Outcomes.{Outcome}
@@ -27,11 +28,6 @@ RunAnswer = Result (Bor (List Node)) Failure
 abbrev pub IsGiven : RunAnswer → Type 0
 IsGiven (Ok nodes) = Unit {0}
 IsGiven (Err failure) = ⊥
-
--- a limit is told
-abbrev pub IsToldLimit : RunAnswer → Type 0
-IsToldLimit (Err (Passes kind number)) = Unit {0}
-IsToldLimit _ = ⊥
 
 -- the texts spell a stylesheet and a document
 pub record AreRunAccepted (sheet document : List ℕ) : Type 0 where
@@ -66,9 +62,7 @@ module _ (s : Sheet) (d : Trees) where
   PassesRun (Texts kind) number = SheetPasses (symbols_of_sheet s) s kind number
   PassesRun Work number = IsWithinSheetLimits (symbols_of_sheet s) s × HasMuchWork × (number ≡ MOST_WORK)
   PassesRun Open number = IsWithinSheetLimits (symbols_of_sheet s) s × IsTooOpen × (number ≡ MOST_OPEN)
-  PassesRun (Rows count) number = ⊥
-  PassesRun Nodes number = ⊥
-  PassesRun Certificate number = ⊥
+  PassesRun _ number = ⊥
 
   -- the result is given exactly where the stylesheet and its run keep to their limits; and a limit is told exactly where one is passed
   pub record DecidesRun (answer : RunAnswer) : Type 0 where

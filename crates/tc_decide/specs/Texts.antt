@@ -9,7 +9,7 @@ use Rattle.tc_dtd.specs.DtdText.{DtdText}
 use Rattle.tc_dtd.specs.Faults.{IsFaultOf}
 use Rattle.tc_dtd.specs.declared.faults.DtdFault.TheVariants as dtd
 use Rattle.tc_model.specs.Grammars.{Grammar}
-use Rattle.tc_model.specs.RncText.{RncText}
+use Rattle.tc_model.specs.RncText.{RncMeans, RncText}
 use Rattle.tc_model.specs.SimplifiesCounts.{IsWithinCounts}
 use Rattle.tc_model.specs.Views.{grammar}
 use Rattle.tc_read.specs.Refusals.{IsRefusedSchema}
@@ -38,6 +38,11 @@ abbrev pub Spells : SchemaText → Grammar → Type 0
 Spells (Compact text) g = RncText text.now g
 Spells (Declarations root text) g = DeclaresGrammar root.now text.now g
 
+-- the text in compact syntax means this grammar; of declarations of elements nothing is said
+abbrev pub Means : SchemaText → Grammar → Type 0
+Means (Compact text) g = RncMeans text.now g
+Means (Declarations root text) g = ⊥
+
 abbrev pub IsSpelled : SchemaText → Type 0
 IsSpelled text = (g : Grammar) × Spells text g
 
@@ -53,8 +58,8 @@ IsShort (Declarations root text) = length text.now ≤ longest_text
 
 -- what is read where some bytes mean a grammar: this grammar, which is small enough, or that it passes a limit on its size
 abbrev pub IsReadAsOne : (Grammar → Type 0) → Schema → Type 0
-IsReadAsOne Means (Small x) = Means (grammar x) × IsWithinCounts (grammar x)
-IsReadAsOne Means (TooLarge kind number) = (x : Grammar) × Means x × PassesSize x kind number
+IsReadAsOne P (Small x) = P (grammar x) × IsWithinCounts (grammar x)
+IsReadAsOne P (TooLarge kind number) = (x : Grammar) × P x × PassesSize x kind number
 
 abbrev pub IsSchemaOfDtd : List ℕ → List ℕ → Schema → Type 0
 IsSchemaOfDtd root bytes = IsReadAsOne (DeclaresGrammar root bytes)

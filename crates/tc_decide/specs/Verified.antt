@@ -6,6 +6,7 @@ use Rattle.tc_cert.specs.Texts.{text, by_changes, CertificateText}
 use Rattle.tc_decide.specs.Certificates.{IsCertificateOf}
 use Rattle.tc_decide.specs.Checking.{IsWithinTripleLimits, PassesTripleLimit}
 use Rattle.tc_decide.specs.Rejections.{Rejection, rejection, IsRejectionOf}
+use Rattle.tc_decide.specs.Told.{IsToldLimit}
 use Rattle.tc_decide.specs.declared.failure.Failure.{Failure}
 use Rattle.tc_decide.specs.declared.failure.Failure.TheVariants.{Refused, Passes, NoMemory}
 use Rattle.tc_decide.specs.declared.failure.Kind.TheVariants.{Texts, Certificate}
@@ -35,11 +36,6 @@ IsToldAccepted _ = ⊥
 abbrev pub IsToldRejected : Result Verification Failure → Type 0
 IsToldRejected (Ok (Rejected why)) = Unit {0}
 IsToldRejected _ = ⊥
-
--- a limit is told
-abbrev pub IsToldLimit : Result Verification Failure → Type 0
-IsToldLimit (Err (Passes kind number)) = Unit {0}
-IsToldLimit _ = ⊥
 
 module _ (i o : Grammar) (s : Sheet) where
   -- the bytes are the text of a certificate of safety
@@ -78,10 +74,6 @@ abbrev pub IsToldMalformed : Result Upgrade Failure → Type 0
 IsToldMalformed (Ok (Malformed line)) = Unit {0}
 IsToldMalformed _ = ⊥
 
-abbrev pub IsToldTooLong : Result Upgrade Failure → Type 0
-IsToldTooLong (Err (Passes kind number)) = Unit {0}
-IsToldTooLong _ = ⊥
-
 -- the data of the bytes, which are a certificate's text, has a text by changes that is too long
 abbrev pub IsOverlongAnew : List ℕ → Type 0
 IsOverlongAnew bytes = (d : CertData) × CertificateText bytes d × (LONGEST_CERTIFICATE < length (text by_changes d))
@@ -93,7 +85,7 @@ pub record DecidesUpgrade (bytes : List ℕ) (result : Result Upgrade Failure) :
   pub written : IfUpgraded result (λ out. (d : CertData) × CertificateText bytes d × (out ≡ text by_changes d))
   pub no : IsToldMalformed result ↔ ((d : CertData) → ¬ (CertificateText bytes d))
   pub why : IfMalformed result (IsFirstFault bytes)
-  pub limit : IsToldTooLong result ↔ IsOverlongAnew bytes
+  pub limit : IsToldLimit result ↔ IsOverlongAnew bytes
 
 -- the limit that a failure tells; no text is refused otherwise
 abbrev pub TellsUpgradeLimit : List ℕ → Result Upgrade Failure → Type 0

@@ -1,17 +1,17 @@
 // Whether a stylesheet is safe between two schemas, by their texts, with a certificate where it is.
-ghost use Rattle.std.specs.Prelude.{◌≡◌, ◌≤◌, ◌⊎◌, Err, length};
+ghost use Rattle.std.specs.Prelude.{◌≤◌, OnOk, length};
 ghost use Rattle.tc_base.specs.Reading.{longest_text};
 ghost use Rattle.tc_beh.specs.Machines.{IsMachine, IsMachineOf};
-ghost use Rattle.tc_decide.specs.Certificates.{DecidesProof, IfRefuted, OnCertified, TellsLimit};
+ghost use Rattle.tc_decide.specs.Certificates.{DecidesProof, IfRefuted, IsCountedProof, OnCertified};
 ghost use Rattle.tc_decide.specs.Checking.{IsWithinTripleLimits};
 ghost use Rattle.tc_decide.specs.Deciding.{IsShownBy, TellsRefusal};
-ghost use Rattle.tc_decide.specs.Texts.{IsShort, Spells};
+ghost use Rattle.tc_decide.specs.Texts.{IsShort, Means, Spells};
 ghost use Rattle.tc_decide.specs.TextsSeen.{IsFoundOfTexts, IsProved};
 ghost use Rattle.tc_decide.specs.declared.limits.TheConstants.{GREATEST_LIMIT};
 ghost use Rattle.tc_model.specs.Grammars.{Grammar};
 ghost use Rattle.tc_model.specs.Safety.{IsSafe};
 ghost use Rattle.tc_model.specs.Sheets.{Sheet};
-ghost use Rattle.tc_read.specs.Sheets.{IsSheetOf};
+ghost use Rattle.tc_read.specs.Sheets.{IsSheetOf, MeansSheet};
 ghost use Rattle.tc_rows.specs.Triples as t;
 
 use crate::checking::{output_of, rows_failure};
@@ -44,23 +44,24 @@ pub fn prove<'b>(
     requires output { IsShort output }
     requires sheet { length sheet.now ≤ longest_text }
 
-    // A certificate: every document that is valid for the input has a result that is valid for the output.
-    ensures certified_safe { (i o : Grammar) (s : Sheet) → Spells input.entry i
-        → Spells output.entry o → IsSheetOf sheet.now s → OnCertified result (IsSafe i o s) }
+    // Of texts of schemas in compact syntax. A certificate: every document that is valid for the input has a result that is valid for the
+    // output.
+    ensures certified_safe { (i o : Grammar) (s : Sheet) → Means input.entry i
+        → Means output.entry o → MeansSheet sheet.now s → OnCertified result (IsSafe i o s) }
 
     // None: the document that is shown is a counterexample, as of a check.
-    ensures shown { (i o : Grammar) (s : Sheet) → Spells input.entry i → Spells output.entry o
-        → IsSheetOf sheet.now s → IfRefuted result (IsShownBy i o s) }
+    ensures shown { (i o : Grammar) (s : Sheet) → Means input.entry i → Means output.entry o
+        → MeansSheet sheet.now s → IfRefuted result (IsShownBy i o s) }
 
-    // Unless memory is refused, it decides as a check does, but that where that is yes it gives the text of the one certificate with exactly
-    // the rows of what is live, and the limit of its length where that is passed.
+    // Also where schemas are given as declarations of elements: it decides as a check does, but that where that is yes it gives the text of
+    // the one certificate with exactly the rows of what is live.
     ensures proved { (i o : Grammar) (s : Sheet) → Spells input.entry i → Spells output.entry o
-        → IsSheetOf sheet.now s
-        → (result ≡ Err Failure.NoMemory) ⊎ DecidesProof i o s most result }
+        → IsSheetOf sheet.now s → OnOk result (DecidesProof i o s result) }
 
-    // The limit that is told, and the text that is refused.
+    // Which failure: unless memory is refused, it is a certificate or a counterexample exactly where no limit is passed, that of the length of
+    // the certificate's text among them, and else the limit that is; and which text is refused.
     ensures counted { (i o : Grammar) (s : Sheet) → Spells input.entry i → Spells output.entry o
-        → IsSheetOf sheet.now s → TellsLimit i o s most result }
+        → IsSheetOf sheet.now s → IsCountedProof i o s most result }
     ensures refused { TellsRefusal input.entry output.entry sheet.now result }
 {
     prove_texts(arena, alloc, most, input, output, sheet)

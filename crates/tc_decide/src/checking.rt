@@ -1,10 +1,10 @@
 // Whether a stylesheet is safe between two schemas, by their texts.
-ghost use Rattle.std.specs.Prelude.{◌≡◌, ◌≤◌, ◌⊎◌, Err, IfOk, length};
+ghost use Rattle.std.specs.Prelude.{◌≡◌, ◌≤◌, IfOk, OnOk, length};
 ghost use Rattle.tc_base.specs.Reading.{longest_text};
 ghost use Rattle.tc_beh.specs.Machines.{IsMachine, IsMachineOf};
 ghost use Rattle.tc_decide.specs.Checking.{IsWithinTripleLimits};
-ghost use Rattle.tc_decide.specs.Deciding.{DecidesSafety, IfUnsafe, IsOutputOf, IsShownBy, OnSafe, TellsCounts, TellsRefusal};
-ghost use Rattle.tc_decide.specs.Texts.{IsShort, Spells};
+ghost use Rattle.tc_decide.specs.Deciding.{DecidesSafety, IfUnsafe, IsCounted, IsOutputOf, IsShownBy, OnSafe, TellsRefusal};
+ghost use Rattle.tc_decide.specs.Texts.{IsShort, Means, Spells};
 ghost use Rattle.tc_decide.specs.TextsSeen.{IsFound, IsFoundOfTexts, of_close};
 ghost use Rattle.tc_decide.specs.declared.limits.TheConstants.{GREATEST_LIMIT};
 ghost use Rattle.tc_model.specs.Grammars.{Grammar};
@@ -12,7 +12,7 @@ ghost use Rattle.tc_model.specs.Safety.{IsSafe};
 ghost use Rattle.tc_model.specs.Sheets.{Sheet};
 ghost use Rattle.tc_model.specs.Trees.{none, IsDocument};
 ghost use Rattle.tc_model.specs.Views as see;
-ghost use Rattle.tc_read.specs.Sheets.{IsSheetOf};
+ghost use Rattle.tc_read.specs.Sheets.{IsSheetOf, MeansSheet};
 ghost use Rattle.tc_rows.specs.Triples as t;
 
 use crate::failure::{Failure, Kind, RowCount};
@@ -48,24 +48,27 @@ pub fn check<'b>(
     requires output { IsShort output }
     requires sheet { length sheet.now ≤ longest_text }
 
-    // Yes: every document that is valid for the input has a result that is valid for the output.
-    ensures safe { (i o : Grammar) (s : Sheet) → Spells input.entry i → Spells output.entry o
-        → IsSheetOf sheet.now s → OnSafe result (IsSafe i o s) }
+    // Of texts of schemas in compact syntax. Yes: every document that is valid for the input has a result that is valid for the output.
+    ensures safe { (i o : Grammar) (s : Sheet) → Means input.entry i → Means output.entry o
+        → MeansSheet sheet.now s → OnSafe result (IsSafe i o s) }
 
     // No: the document that is shown is valid for the input, and its result, which is shown too unless it is too large, isn't valid for the
     // output.
-    ensures shown { (i o : Grammar) (s : Sheet) → Spells input.entry i → Spells output.entry o
-        → IsSheetOf sheet.now s → IfUnsafe result (IsShownBy i o s) }
+    ensures shown { (i o : Grammar) (s : Sheet) → Means input.entry i → Means output.entry o
+        → MeansSheet sheet.now s → IfUnsafe result (IsShownBy i o s) }
 
-    // The headline: unless memory is refused, it is yes exactly where no limit is passed and the stylesheet is safe, no exactly where none is
-    // passed and it isn't by a document that can be shown, with a least one and its result; and else a limit that is passed.
-    ensures headline { (i o : Grammar) (s : Sheet) → Spells input.entry i → Spells output.entry o
-        → IsSheetOf sheet.now s
-        → (result ≡ Err Failure.NoMemory) ⊎ DecidesSafety most i o s result }
+    // The headline: yes exactly where the stylesheet is safe, no exactly where some counterexample has few enough nodes to be shown, with one
+    // of the fewest and its result; and else a failure.
+    ensures headline { (i o : Grammar) (s : Sheet) → Means input.entry i → Means output.entry o
+        → MeansSheet sheet.now s → OnOk result (DecidesSafety i o s result) }
 
-    // The numbers of rows that are told, and the limit.
+    // So too where one schema or both are given as declarations of elements.
+    ensures declared { (i o : Grammar) (s : Sheet) → Spells input.entry i → Spells output.entry o
+        → IsSheetOf sheet.now s → OnOk result (DecidesSafety i o s result) }
+
+    // Which failure, and which numbers: unless memory is refused, it is yes or no exactly where no limit is passed, and else the limit that is.
     ensures counted { (i o : Grammar) (s : Sheet) → Spells input.entry i → Spells output.entry o
-        → IsSheetOf sheet.now s → TellsCounts most i o s result }
+        → IsSheetOf sheet.now s → IsCounted most i o s result }
 
     // The text that is refused, why and where; where none is, all are texts of schemas and a stylesheet.
     ensures refused { TellsRefusal input.entry output.entry sheet.now result }

@@ -6,7 +6,7 @@ ghost use Rattle.tc_decide.specs.Comparing.{AreWithinPairLimits, DecidesEquality
 ghost use Rattle.tc_decide.specs.ComparingSeen.{FindsEquality, FindsInclusion, FindsOneOnly, HasFewNodes, IsFoundOfPair, IsPairOf, IsPairOfTexts, StopsPair};
 ghost use Rattle.tc_decide.specs.Limits.{AreFew, IsWithinLimits};
 ghost use Rattle.tc_decide.specs.MachinesSeen.{IsCauseBy, IsLawful, IsReadOf};
-ghost use Rattle.tc_decide.specs.Texts.{IsShort, Spells};
+ghost use Rattle.tc_decide.specs.Texts.{IsShort, Means, Spells};
 ghost use Rattle.tc_decide.specs.declared.limits.TheConstants.{MOST_ROWS, MOST_SHOWN_NODES};
 ghost use Rattle.tc_incl.specs.Answers.{IsAnswer, IsCause, IsIncludedWith, IsLeastPlain};
 ghost use Rattle.tc_incl.specs.Schemas.{IsDifference, IsIncluded};
@@ -55,14 +55,15 @@ pub fn include<'b>(
     requires first { IsShort first }
     requires second { IsShort second }
 
-    // Included: each document that is valid for the first schema is valid for the second. Not: the document that is shown isn't.
-    ensures included { (x y : g.Grammar) → Spells first.entry x → Spells second.entry y
+    // Of texts in compact syntax. Included: each document that is valid for the first schema is valid for the second. Not: the document
+    // that is shown isn't.
+    ensures included { (x y : g.Grammar) → Means first.entry x → Means second.entry y
         → OnIncluded result (IsIncluded x y) }
-    ensures shown { (x y : g.Grammar) → Spells first.entry x → Spells second.entry y
+    ensures shown { (x y : g.Grammar) → Means first.entry x → Means second.entry y
         → IfNotIncluded result (IsDifference x y) }
 
-    // Unless memory is refused, it is included exactly where no limit is passed and it is so, not exactly where none is passed and a document
-    // that can be shown isn't valid for the second, with a least one; and else a limit that is passed.
+    // Also of declarations of elements: unless memory is refused, it is included exactly where no limit is passed and it is so, not exactly
+    // where none is passed and a document that can be shown isn't valid for the second, with a least one; and else a limit that is passed.
     ensures inclusion { (x y : g.Grammar) → Spells first.entry x → Spells second.entry y
         → (result ≡ Err Failure.NoMemory) ⊎ DecidesInclusion x y result }
 
@@ -89,14 +90,16 @@ pub fn same<'b>(
     requires first { IsShort first }
     requires second { IsShort second }
 
-    // The same: a document is valid for both or for none. Else: the document that is shown is valid for the one that is told alone.
-    ensures equal { (x y : g.Grammar) → Spells first.entry x → Spells second.entry y
+    // The same, of texts in compact syntax: a document is valid for both or for none. Else: the document that is shown is valid for the one
+    // that is told alone.
+    ensures equal { (x y : g.Grammar) → Means first.entry x → Means second.entry y
         → OnSame result (c.IsSo x y c.equality) }
     ensures shown { (x y : g.Grammar) → Spells first.entry x → Spells second.entry y
         → IfDifferent x y result }
 
-    // Unless memory is refused, they are the same exactly where no limit is passed and it is so, and a document is shown exactly where none is
-    // passed and one that can be is valid for one alone, with a least one; and else a limit that is passed.
+    // Also of declarations of elements: unless memory is refused, they are the same exactly where no limit is passed and it is so, and a
+    // document is shown exactly where none is passed and one that can be is valid for one alone, with a least one; and else a limit that is
+    // passed.
     ensures equality { (x y : g.Grammar) → Spells first.entry x → Spells second.entry y
         → (result ≡ Err Failure.NoMemory) ⊎ DecidesEquality x y result }
 

@@ -6,7 +6,7 @@ ghost use Rattle.tc_decide.specs.Nothing as nothing;
 use tc_model::{Grammar, Pat, Sheet};
 
 /// The schema that has no document.
-pub fn no_schema<'b>() -> Grammar<'b>
+pub(crate) fn no_schema<'b>() -> Grammar<'b>
     ensures { see.grammar result ≡ nothing.no_schema }
 {
     Grammar {
@@ -16,7 +16,7 @@ pub fn no_schema<'b>() -> Grammar<'b>
 }
 
 /// The stylesheet without rules.
-pub fn no_rules<'b>() -> Sheet<'b>
+pub(crate) fn no_rules<'b>() -> Sheet<'b>
     ensures { see.sheet result ≡ nothing.no_rules }
 {
     Sheet {

@@ -2,7 +2,7 @@
 ghost use Rattle.std.specs.Prelude.{◌≡◌};
 ghost use Rattle.tc_decide.specs.TextsSeen.{of_text};
 
-use crate::limits::{LONGEST_CERTIFICATE, MOST_ROWS};
+use crate::limits::{LONGEST_CERTIFICATE, LONGEST_TAG, MOST_NAMES, MOST_ROWS};
 use crate::machine::LimitFault;
 use tc_base::limits::{MOST_OPEN, MOST_WORK};
 use tc_base::{Limit, NoMemory, Place};
@@ -10,6 +10,7 @@ use tc_cert::CertWriteFault;
 use tc_incl::InclFault;
 use tc_read::{Reason, TextFault};
 use tc_run::RunFault;
+use tc_stream::StreamFault;
 
 /// Which of the texts.
 #[derive(Clone, Copy, Debug, PartialEq, Eq)]
@@ -35,6 +36,15 @@ pub enum RowCount {
     Outputs,
 }
 
+/// What is measured of a document that comes in pieces.
+#[derive(Clone, Copy, Debug, PartialEq, Eq)]
+pub enum PieceMeasure {
+    /// The bytes of a tag.
+    Tag,
+    /// The bytes of the names of the open elements.
+    Names,
+}
+
 /// What passes its limit.
 #[derive(Clone, Copy, Debug, PartialEq, Eq)]
 pub enum Kind {
@@ -50,6 +60,8 @@ pub enum Kind {
     Work,
     /// The bodies and instructions of a run that stand within one another.
     Open,
+    /// A measure of a document that comes in pieces.
+    Pieces(PieceMeasure),
 }
 
 /// Why nothing is decided.
@@ -113,6 +125,33 @@ impl From<RunFault> for Failure {
             RunFault::TooMuchWork => Failure::Passes(Kind::Work, MOST_WORK),
             RunFault::TooOpen => Failure::Passes(Kind::Open, MOST_OPEN),
             RunFault::NoMemory => Failure::NoMemory,
+        }
+    }
+}
+
+impl From<StreamFault> for Failure {
+    ghost use Rattle.std.specs.Prelude.{◌≡◌};
+    ghost use Rattle.tc_decide.specs.PiecesSeen.{of_stream};
+
+    ghost from_gives = { λ fault e. e ≡ of_stream fault };
+
+    fn from(fault: StreamFault) -> Failure {
+        match fault {
+            StreamFault::Malformed(place) => {
+                Failure::Refused(Which::Document, Reason::Malformed, place)
+            }
+            StreamFault::Unsupported(place, why) => {
+                Failure::Refused(Which::Document, Reason::Unsupported(why), place)
+            }
+            StreamFault::TooDeep(place) => {
+                Failure::Refused(Which::Document, Reason::TooDeep, place)
+            }
+            StreamFault::TagTooLong => {
+                Failure::Passes(Kind::Pieces(PieceMeasure::Tag), LONGEST_TAG)
+            }
+            StreamFault::NamesTooLong => {
+                Failure::Passes(Kind::Pieces(PieceMeasure::Names), MOST_NAMES)
+            }
         }
     }
 }

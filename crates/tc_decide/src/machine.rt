@@ -33,7 +33,7 @@ use tc_rules::{Rules, RulesFault};
 
 /// Why there is no machine, or no automaton.
 #[derive(Clone, Copy)]
-pub enum LimitFault {
+pub(crate) enum LimitFault {
     /// This limit is passed, which has this number, and none that is tried before it.
     Passes(Limit, u32),
     /// Memory was refused.
@@ -57,7 +57,7 @@ impl From<NoMemory> for LimitFault {
 ///
 /// The first limit that is passed: those of the input schema, of the output schema, of what all three mention, of the
 /// stylesheet, and of rows' entries.
-pub fn machine_of<'b>(
+pub(crate) fn machine_of<'b>(
     alloc: Global,
     input: &Schema<'b>,
     output: &Schema<'b>,
@@ -79,7 +79,9 @@ pub fn machine_of<'b>(
 }
 
 /// The grammar of a schema, unless its size passes a limit.
-pub fn grammar_within_limits<'s, 'b>(schema: &'s Schema<'b>) -> Result<&'s Grammar<'b>, LimitFault>
+pub(crate) fn grammar_within_limits<'s, 'b>(
+    schema: &'s Schema<'b>,
+) -> Result<&'s Grammar<'b>, LimitFault>
     ensures ok { IfOk result (λ grammar. schema.now ≡ Schema.Small grammar.now) }
     ensures err { IfErr result (λ e. (side : s.Side) (x : g.Grammar) → IsReadOf x schema.now
         → IsCauseBy (PassesLimit x side MOST_INPUT_STATES) e) }
@@ -93,7 +95,10 @@ pub fn grammar_within_limits<'s, 'b>(schema: &'s Schema<'b>) -> Result<&'s Gramm
 }
 
 /// The automaton of the contents of an input schema, unless that passes a limit of its own.
-pub fn input_automaton<'b>(alloc: Global, schema: &Schema<'b>) -> Result<Auto<'b>, LimitFault>
+pub(crate) fn input_automaton<'b>(
+    alloc: Global,
+    schema: &Schema<'b>,
+) -> Result<Auto<'b>, LimitFault>
     ensures stands { IfOk result (λ auto. (x : g.Grammar) → IsReadOf x schema.now
         → a.Stands s.input x auto) }
     ensures within { OnOk result ((x : g.Grammar) → IsReadOf x schema.now

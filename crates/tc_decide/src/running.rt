@@ -74,7 +74,7 @@ fn run_texts<'b>(
 }
 
 /// The document of a text.
-fn document_of<'b>(arena: &'b Bump, text: &[u8]) -> Result<Node<'b>, Failure>
+pub(crate) fn document_of<'b>(arena: &'b Bump, text: &[u8]) -> Result<Node<'b>, Failure>
     requires { length text.now ≤ longest_text }
     ensures ok { IfOk result (λ root. IsReadAs text.now (see.before root none)) }
     ensures document { IfOk result (λ root. IsDocument (see.before root none)) }

@@ -19,12 +19,16 @@ use tc_read::{Reason, Schema, TextFault};
 pub enum SchemaText<'t> {
     /// In RELAX NG's compact syntax.
     Compact(&'t [u8]),
-    /// Declarations of elements (XML 1.0, 3.2), with the name of the document's element.
+    /// Declarations of elements (XML 1.0, 3.2), with the name of the document's element. With a name that isn't declared,
+    /// or can't be, no document is valid.
     Declarations(&'t str, &'t [u8]),
 }
 
 /// The schema of a text. A limit that its size passes isn't told before all texts were read.
-pub fn read_schema<'b>(arena: &'b Bump, text: SchemaText<'_>) -> Result<Schema<'b>, TextFault>
+pub(crate) fn read_schema<'b>(
+    arena: &'b Bump,
+    text: SchemaText<'_>,
+) -> Result<Schema<'b>, TextFault>
     requires { IsShort text }
     ensures ok { IfOk result (IsSchemaOf text.entry) }
     ensures no { IfErr result (IsUnaccepted (IsRefused text.entry)) }

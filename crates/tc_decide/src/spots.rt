@@ -64,8 +64,8 @@ struct Marking<'b> {
 }
 
 /// Which rules, named bodies and branches of a stylesheet no document instantiates that is valid for the schema, and for
-/// each other a least document that does, in the order of the stylesheet: rules, named bodies, branches. A text isn't
-/// longer than a file may be. What is told lies in the arena.
+/// each other a least document that does, unless each that does is too large to be shown, in the order of the stylesheet:
+/// rules, named bodies, branches. A text isn't longer than a file may be. What is told lies in the arena.
 ///
 /// # Errors
 ///
@@ -276,7 +276,8 @@ fn stage(failure: Failure) -> u32
         Failure::Passes(Kind::Nodes, _)
         | Failure::Passes(Kind::Certificate, _)
         | Failure::Passes(Kind::Work, _)
-        | Failure::Passes(Kind::Open, _) => 4,
+        | Failure::Passes(Kind::Open, _)
+        | Failure::Passes(Kind::Pieces(_), _) => 4,
         Failure::Refused(_, _, _) | Failure::NoMemory => 0,
     }
 }

@@ -7,7 +7,7 @@ ghost use Rattle.tc_cert.specs.Texts.{CertificateText};
 ghost use Rattle.tc_decide.specs.Checking.{IsWithinTripleLimits};
 ghost use Rattle.tc_decide.specs.Deciding.{TellsRefusal};
 ghost use Rattle.tc_decide.specs.Rejections.{rejection, told_by};
-ghost use Rattle.tc_decide.specs.Texts.{IsShort, Spells};
+ghost use Rattle.tc_decide.specs.Texts.{IsShort, Means, Spells};
 ghost use Rattle.tc_decide.specs.TextsSeen.{IsFoundOfTexts};
 ghost use Rattle.tc_decide.specs.Verified.{DecidesCertificate, OnAccepted, TellsTextLimit};
 ghost use Rattle.tc_decide.specs.VerifiedSeen.{IsNoForm, IsVerified, IsVerifiedAs, ranges_of};
@@ -16,7 +16,7 @@ ghost use Rattle.tc_model.specs.Grammars.{Grammar};
 ghost use Rattle.tc_model.specs.Safety.{IsSafe};
 ghost use Rattle.tc_model.specs.Sheets.{Sheet};
 ghost use Rattle.tc_model.specs.Symbols.{symbol_count};
-ghost use Rattle.tc_read.specs.Sheets.{IsSheetOf};
+ghost use Rattle.tc_read.specs.Sheets.{IsSheetOf, MeansSheet};
 ghost use Rattle.tc_rows.specs.Triples as t;
 
 use crate::failure::Failure;
@@ -52,9 +52,14 @@ pub fn verify<'b>(
     requires sheet { length sheet.now ≤ longest_text }
     requires certificate { length certificate.now ≤ longest_text }
 
-    // Accepted: every document that is valid for the input has a result that is valid for the output.
-    ensures accepted_safe { (i o : Grammar) (s : Sheet) → Spells input.entry i
-        → Spells output.entry o → IsSheetOf sheet.now s → OnAccepted result (IsSafe i o s) }
+    // Of texts of schemas in compact syntax. Accepted: every document that is valid for the input has a result that is valid for the
+    // output.
+    ensures accepted_safe { (i o : Grammar) (s : Sheet) → Means input.entry i
+        → Means output.entry o → MeansSheet sheet.now s → OnAccepted result (IsSafe i o s) }
+
+    // So too where one schema or both are given as declarations of elements.
+    ensures declared { (i o : Grammar) (s : Sheet) → Spells input.entry i → Spells output.entry o
+        → IsSheetOf sheet.now s → OnAccepted result (IsSafe i o s) }
 
     // Unless memory is refused, it is accepted exactly where no limit is passed and the text is that of a certificate, and rejected exactly
     // where none is passed and it isn't, by the first rule that fails; and else a limit is told that is passed.

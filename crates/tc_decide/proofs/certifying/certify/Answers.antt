@@ -22,7 +22,7 @@ returns-in_err-text-in-Ok-Certified c = λ x is w.
 pub returns-in_ok-text-in-Ok-Certified : goal.returns-in_ok-text-in-Ok-Certified
 returns-in_ok-text-in-Ok-Certified c = λ x is w.
     let closed = subst (IsClosed x c.args.most) c.in-Ok-Certified.field-0-is (c.in-Ok-Certified.ensures.proof x is) in
-    certified x (triple_is is) w c.args.most c.in-Ok-Certified.data closed.0 closed.1 c.in_ok-text-in-Ok-Certified.text c.in_ok-text-in-Ok-Certified.ensures.text c.in_ok-text-in-Ok-Certified.ensures.within
+    certified x (triple_is is) w c.args.most c.in-Ok-Certified.data closed.0 closed.1 closed.2 c.in_ok-text-in-Ok-Certified.text c.in_ok-text-in-Ok-Certified.ensures.text c.in_ok-text-in-Ok-Certified.ensures.within
 
 pub returns-in-Ok-TooLong : goal.returns-in-Ok-TooLong
 returns-in-Ok-TooLong c = λ x is w.
