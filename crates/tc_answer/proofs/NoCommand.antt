@@ -1,6 +1,7 @@
 -- Words that are no command, by what doesn't stand behind the first one.
 use Rattle.std.proofs.Common.{◌≡◌, ◌∷◌, [], ◌∙◌, sym, ap, subst, refl, ℕ, zero, suc, List, Option, Bool, true, false, if◌then◌else◌, codes}
 use Rattle.tc_answer.specs.Words.{Command, Words, checks, proves, verifies, runs, validates, validates_in_pieces, shows, upgrades, asks_dead, includes, compares, Limits, IsNumeral, AreOperands, AreSchemas, IsNoCommand}
+use Rattle.tc_answer.specs.declared.limits.TheConstants.{MOST_DEMO}
 use Rattle.tc_answer.proofs.Marked.{tails}
 use Rattle.tc_answer.proofs.OneCommand.{kind}
 
@@ -10,7 +11,7 @@ Lacks zero words = (rest : List (List ℕ)) (limit : Option ℕ) (a b c : List �
 Lacks (suc zero) words = (rest : List (List ℕ)) (limit : Option ℕ) (a b c : List ℕ) → words ≡ codes "prove" ∷ rest → Limits rest limit (a ∷ b ∷ c ∷ []) → AreOperands (a ∷ b ∷ c ∷ []) → AreSchemas (a ∷ b ∷ []) → ⊥
 Lacks (suc (suc zero)) words = (a b c d : List ℕ) → words ≡ codes "verify" ∷ a ∷ b ∷ c ∷ d ∷ [] → AreOperands (a ∷ b ∷ c ∷ d ∷ []) → AreSchemas (a ∷ b ∷ []) → ⊥
 Lacks (suc (suc (suc zero))) words = (a b : List ℕ) → words ≡ codes "run" ∷ a ∷ b ∷ [] → AreOperands (a ∷ b ∷ []) → ⊥
-Lacks (suc (suc (suc (suc (suc zero))))) words = (numeral : List ℕ) (size : ℕ) → words ≡ codes "demo" ∷ numeral ∷ [] → IsNumeral 40 numeral size → ⊥
+Lacks (suc (suc (suc (suc (suc zero))))) words = (numeral : List ℕ) (size : ℕ) → words ≡ codes "demo" ∷ numeral ∷ [] → IsNumeral MOST_DEMO numeral size → ⊥
 Lacks (suc (suc (suc (suc (suc (suc zero)))))) words = (a : List ℕ) → words ≡ codes "upgrade" ∷ a ∷ [] → AreOperands (a ∷ []) → ⊥
 Lacks (suc (suc (suc (suc (suc (suc (suc zero))))))) words = (a b : List ℕ) → words ≡ codes "include" ∷ a ∷ b ∷ [] → AreOperands (a ∷ b ∷ []) → AreSchemas (a ∷ b ∷ []) → ⊥
 Lacks (suc (suc (suc (suc (suc (suc (suc (suc zero)))))))) words = (a b : List ℕ) → words ≡ codes "same" ∷ a ∷ b ∷ [] → AreOperands (a ∷ b ∷ []) → AreSchemas (a ∷ b ∷ []) → ⊥

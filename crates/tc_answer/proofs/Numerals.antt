@@ -4,6 +4,7 @@ use Rattle.std.specs.Option.{option_eq, option_copied}
 use Rattle.std.proofs.lemmas.Bool.{eqb-true, true≢false}
 use Rattle.std.proofs.lemmas.List.{drop_more, drop_all}
 use Rattle.tc_answer.specs.Words.{value_from, Words, validates_in_pieces, shows, valid_in_pieces, demo}
+use Rattle.tc_answer.specs.declared.limits.TheConstants.{MOST_DEMO}
 
 -- more digits never make it less
 pub value_from-le : (value : ℕ) (digits : List ℕ) → value ≤ value_from value digits
@@ -32,8 +33,8 @@ first_agrees (Some x) item xs result copied says agrees = sym copied ∙ ap Some
 pub value_from-end : (value : ℕ) (digits : List ℕ) (i : ℕ) → length digits ≤ i → value_from value (drop i digits) ≡ value
 value_from-end value digits i h = ap (value_from value) (drop_all i digits h)
 
--- a demonstration has from 1 to 40 elements
-pub demo_size : {words : List (List ℕ)} {size : ℕ} → Words words (demo size) → (1 ≤ size) × (size ≤ 40)
+-- a demonstration has from 1 to so many elements
+pub demo_size : {words : List (List ℕ)} {size : ℕ} → Words words (demo size) → (1 ≤ size) × (size ≤ MOST_DEMO)
 demo_size (shows p s) = (s.at_least, s.at_most)
 
 -- a piece has a byte at least

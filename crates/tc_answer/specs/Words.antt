@@ -3,6 +3,8 @@ use Rattle.std.specs.Prelude.{◌≡◌, ◌≢◌, ◌≤◌, ℕ, ◌+◌, ◌
 use Rattle.std.specs.Char.{is_ascii_digit}
 use Rattle.std.specs.List.{list_all}
 use Rattle.tc_answer.specs.SchemaWords.{file_of, IsSchemaWord}
+use Rattle.tc_answer.specs.declared.limits.TheConstants.{LARGEST_PIECE, MOST_DEMO}
+use Rattle.tc_decide.specs.declared.limits.TheConstants.{GREATEST_LIMIT}
 
 -- a command, with its operands in the order of the words; of those in a schema's place SchemaWords says what they name
 pub data Command : Type 0 where
@@ -47,12 +49,12 @@ pub record IsNumeral (most : ℕ) (word : List ℕ) (number : ℕ) : Type 0 wher
 -- what stands behind `check` and `prove`: `--limit` and a number, or nothing, and then the operands
 abbrev pub Limits : List (List ℕ) → Option ℕ → List (List ℕ) → Type 0
 Limits words None operands = words ≡ operands
-Limits words (Some limit) operands = (numeral : List ℕ) × (words ≡ codes "--limit" ∷ numeral ∷ operands) × IsNumeral 4000 numeral limit
+Limits words (Some limit) operands = (numeral : List ℕ) × (words ≡ codes "--limit" ∷ numeral ∷ operands) × IsNumeral GREATEST_LIMIT numeral limit
 
 -- what stands behind `valid`: `--stream` and the size of pieces, or nothing, and then the operands
 abbrev pub PieceSizes : List (List ℕ) → Option ℕ → List (List ℕ) → Type 0
 PieceSizes words None operands = words ≡ operands
-PieceSizes words (Some size) operands = (numeral : List ℕ) × (words ≡ codes "--stream" ∷ numeral ∷ operands) × IsNumeral 65536 numeral size
+PieceSizes words (Some size) operands = (numeral : List ℕ) × (words ≡ codes "--stream" ∷ numeral ∷ operands) × IsNumeral LARGEST_PIECE numeral size
 
 -- the words give the command
 pub data Words : List (List ℕ) → Command → Type 0 where
@@ -68,7 +70,7 @@ pub data Words : List (List ℕ) → Command → Type 0 where
       → AreOperands (schema ∷ document ∷ []) → AreSchemas (schema ∷ []) → Words words (valid schema document)
   validates_in_pieces : {words rest : List (List ℕ)} {size : ℕ} {schema document : List ℕ} → words ≡ codes "valid" ∷ rest → PieceSizes rest (Some size) (schema ∷ document ∷ [])
       → AreOperands (schema ∷ document ∷ []) → AreSchemas (schema ∷ []) → Words words (valid_in_pieces size schema document)
-  shows : {words : List (List ℕ)} {numeral : List ℕ} {size : ℕ} → words ≡ codes "demo" ∷ numeral ∷ [] → IsNumeral 40 numeral size → Words words (demo size)
+  shows : {words : List (List ℕ)} {numeral : List ℕ} {size : ℕ} → words ≡ codes "demo" ∷ numeral ∷ [] → IsNumeral MOST_DEMO numeral size → Words words (demo size)
   upgrades : {words : List (List ℕ)} {certificate : List ℕ} → words ≡ codes "upgrade" ∷ certificate ∷ [] → AreOperands (certificate ∷ []) → Words words (upgrade certificate)
   asks_dead : {words : List (List ℕ)} {input sheet : List ℕ} → words ≡ codes "dead" ∷ input ∷ sheet ∷ []
       → AreOperands (input ∷ sheet ∷ []) → AreSchemas (input ∷ []) → Words words (dead input sheet)

@@ -4,8 +4,11 @@ ghost use Rattle.std.specs.List.{list_all};
 ghost use Rattle.tc_answer.specs.Words.{IsNumeral, Words, AreOperands, AreSchemas, IsNoCommand, is_operand};
 ghost use Rattle.tc_answer.specs.Numbered.{Numbered};
 ghost use Rattle.tc_answer.specs.WordsSeen.{texts, command};
+ghost use Rattle.tc_answer.specs.declared.limits.TheConstants.{LARGEST_PIECE};
 
+use crate::limits::{LARGEST_PIECE, MOST_DEMO};
 use crate::sources::is_schema_word;
+use tc_decide::limits::GREATEST_LIMIT;
 
 /// The operands of a check: the names of two schemas and a stylesheet.
 #[derive(Clone, Copy)]
@@ -43,15 +46,6 @@ pub enum Command<'w> {
     Same(&'w str, &'w str),
 }
 
-/// The greatest number of `--limit`.
-const MOST_LIMIT: u32 = 4000;
-
-/// The greatest number of `--stream`, in bytes.
-const LARGEST_PIECE: u32 = 65_536;
-
-/// The greatest number of `demo`.
-const MOST_DEMO: u32 = 40;
-
 /// The command that the words give. It takes no memory.
 pub fn read_words(words: &[String]) -> Option<Command<'_>>
     ensures { MatchOption result (IsNoCommand (texts words.now))
@@ -83,7 +77,7 @@ fn read_check(words: &[String], proves: bool) -> Option<Command<'_>>
         (λ c. Words ((if proves then codes "prove" else codes "check") ∷ texts words.now)
         (command c)) }
 {
-    let (limit, operands) = read_option(words, "--limit", MOST_LIMIT)?;
+    let (limit, operands) = read_option(words, "--limit", GREATEST_LIMIT)?;
     let triple = read_triple(operands)?;
     if proves {
         Some(Command::Prove(limit, triple))
@@ -128,7 +122,7 @@ fn read_option<'w>(
     most: u32,
 ) -> Option<(Option<u32>, &'w [String])>
     requires mark { is_operand mark.now ≡ false }
-    requires most { most ≤ 65536 }
+    requires most { most ≤ LARGEST_PIECE }
     ensures { MatchOption result
         ((number : Option ℕ) (operands : List (List ℕ))
         → Numbered mark.now most (texts words.now) number operands → AreOperands operands → ⊥)
@@ -272,7 +266,7 @@ fn is_operand(word: &str) -> bool
 
 /// The number from 1 to `most` that the word spells, in decimal digits without a leading zero.
 fn read_number(word: &str, most: u32) -> Option<u32>
-    requires { most ≤ 65536 }
+    requires { most ≤ LARGEST_PIECE }
     ensures { MatchOption result ((number : ℕ) → IsNumeral most word.now number → ⊥)
         (IsNumeral most word.now) }
 {

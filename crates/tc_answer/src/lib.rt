@@ -6,6 +6,7 @@ mod answer;
 mod buffer;
 mod command;
 pub mod laws;
+pub mod limits;
 mod read;
 mod sources;
 mod spots;

@@ -93,16 +93,16 @@ verifies_of (verified h x) = x
 upgrades_of : {name bytes : List ℕ} {answer : Answer} → IsAnswerTo (w.upgrade name) (bytes ∷ []) answer → Upgrades bytes answer
 upgrades_of (upgraded h x) = x
 
-pub proof_of_files : {words : List (List ℕ)} {rose : Type 0} {reads : List Read} (files : Files) (limit : Option ℕ) (i o : Grammar) (s : Sheet) (status : Status) (old new : Option (List ℕ)) (answer : Answer)
+pub proof_of_files : {words : List (List ℕ)} {rose wrote : Type 0} {reads : List Read} (files : Files) (limit : Option ℕ) (i o : Grammar) (s : Sheet) (status : Status) (old new : Option (List ℕ)) (answer : Answer)
     → ProvesFiles words files limit i o s → AreTrue (Some files) rose reads → IsAnswer words reads answer → status ≡ status_of answer → Appended old new (text_of answer)
-    → IsCutShort status rose ⊎ DecidesProof i o s status old new (most_rows limit)
-proof_of_files {words} {rose} {reads} files limit i o s status old new answer c true right is written =
+    → IsCutShort status rose wrote ⊎ DecidesProof i o s status old new (most_rows limit)
+proof_of_files {words} {rose} {wrote} {reads} files limit i o s status old new answer c true right is written =
     by (read_all rose files _ c.words_are (holds h.input_held (holds h.output_held (holds h.sheet_held no_file))) (is_short c.held.input_short (is_short c.held.output_short (is_short c.held.sheet_short none_long))) true right)
   where
     h : HoldTriple files c.input c.output c.sheet i o s
     h = c.held.triple
 
-    by : IsOfFault rose answer ⊎ IsAnswerTo (w.prove limit c.input c.output c.sheet) (h.input_text ∷ h.output_text ∷ h.sheet_text ∷ []) answer → IsCutShort status rose ⊎ DecidesProof i o s status old new (most_rows limit)
+    by : IsOfFault rose answer ⊎ IsAnswerTo (w.prove limit c.input c.output c.sheet) (h.input_text ∷ h.output_text ∷ h.sheet_text ∷ []) answer → IsCutShort status rose wrote ⊎ DecidesProof i o s status old new (most_rows limit)
     by (inl fault) = inl (cut_short status answer is fault)
     by (inr x) = inr (proof_decides i o s (most_rows limit) status old new is written (decided_of h.input_spells h.output_spells h.sheet_spells (proves_of x)))
 
@@ -151,17 +151,17 @@ verified_held : {words : List (List ℕ)} {files : Files} {i o : Grammar} {s : S
     → AreHeld files (w.schema c.input ∷ w.schema c.output ∷ w.plain c.sheet ∷ w.plain c.certificate ∷ []) (c.held.input_text ∷ c.held.output_text ∷ c.held.sheet_text ∷ bytes ∷ [])
 verified_held c = holds c.held.input_held (holds c.held.output_held (holds c.held.sheet_held (holds c.certificate_held no_file)))
 
-pub certificate_of_files : {words : List (List ℕ)} {rose : Type 0} {reads : List Read} (files : Files) (i o : Grammar) (s : Sheet) (bytes : List ℕ) (status : Status) (old new : Option (List ℕ)) (answer : Answer)
+pub certificate_of_files : {words : List (List ℕ)} {rose wrote : Type 0} {reads : List Read} (files : Files) (i o : Grammar) (s : Sheet) (bytes : List ℕ) (status : Status) (old new : Option (List ℕ)) (answer : Answer)
     → VerifiesShortFiles words files i o s bytes → AreTrue (Some files) rose reads → IsAnswer words reads answer → status ≡ status_of answer → Appended old new (text_of answer)
-    → IsCutShort status rose ⊎ DecidesCertificate i o s status old new bytes
-certificate_of_files {words} {rose} {reads} files i o s bytes status old new answer short true right is written =
+    → IsCutShort status rose wrote ⊎ DecidesCertificate i o s status old new bytes
+certificate_of_files {words} {rose} {wrote} {reads} files i o s bytes status old new answer short true right is written =
     by (read_all rose files _ c.words_are (verified_held c) (is_short short.input_short (is_short short.output_short (is_short short.sheet_short (is_short short.certificate_short none_long)))) true right)
   where
     c : VerifiesFiles words files i o s bytes
     c = short.verifies
 
     by : IsOfFault rose answer ⊎ IsAnswerTo (w.verify c.input c.output c.sheet c.certificate) (c.held.input_text ∷ c.held.output_text ∷ c.held.sheet_text ∷ bytes ∷ []) answer
-        → IsCutShort status rose ⊎ DecidesCertificate i o s status old new bytes
+        → IsCutShort status rose wrote ⊎ DecidesCertificate i o s status old new bytes
     by (inl fault) = inl (cut_short status answer is fault)
     by (inr x) = inr (certificate_decides i o s bytes status old new short.certificate_short is written (decided_of c.held.input_spells c.held.output_spells c.held.sheet_spells (verifies_of x)))
 
@@ -217,12 +217,12 @@ upgrade_decides bytes status old new h is written (no_form {line = n} f) = recor
   limit_text = λ e. absurd (no_limit is e);
 }
 
-pub upgrade_of_files : {words : List (List ℕ)} {rose : Type 0} {reads : List Read} (files : Files) (bytes : List ℕ) (status : Status) (old new : Option (List ℕ)) (answer : Answer) → UpgradesFiles words files bytes
-    → AreTrue (Some files) rose reads → IsAnswer words reads answer → status ≡ status_of answer → Appended old new (text_of answer) → IsCutShort status rose ⊎ DecidesUpgrade status old new bytes
-upgrade_of_files {words} {rose} {reads} files bytes status old new answer c true right is written =
+pub upgrade_of_files : {words : List (List ℕ)} {rose wrote : Type 0} {reads : List Read} (files : Files) (bytes : List ℕ) (status : Status) (old new : Option (List ℕ)) (answer : Answer) → UpgradesFiles words files bytes
+    → AreTrue (Some files) rose reads → IsAnswer words reads answer → status ≡ status_of answer → Appended old new (text_of answer) → IsCutShort status rose wrote ⊎ DecidesUpgrade status old new bytes
+upgrade_of_files {words} {rose} {wrote} {reads} files bytes status old new answer c true right is written =
     by (read_all rose files _ c.words_are (holds c.certificate_held no_file) (is_short c.certificate_short none_long) true right)
   where
-    by : IsOfFault rose answer ⊎ IsAnswerTo (w.upgrade c.certificate) (bytes ∷ []) answer → IsCutShort status rose ⊎ DecidesUpgrade status old new bytes
+    by : IsOfFault rose answer ⊎ IsAnswerTo (w.upgrade c.certificate) (bytes ∷ []) answer → IsCutShort status rose wrote ⊎ DecidesUpgrade status old new bytes
     by (inl fault) = inl (cut_short status answer is fault)
     by (inr x) = inr (upgrade_decides bytes status old new c.certificate_short is written (upgrades_of x))
 

@@ -25,15 +25,15 @@ inclusion_of (compared_one_way x) = x
 equality_of : {first second b c : List ℕ} {answer : Answer} → IsAnswerTo (w.same first second) (b ∷ c ∷ []) answer → Compares equality first second b c answer
 equality_of (compared_both_ways x) = x
 
-module _ {words : List (List ℕ)} {rose : Type 0} (files : Files) (g h : Grammar) (status : Status) (old new : Option (List ℕ)) (answer : Answer) where
+module _ {words : List (List ℕ)} {rose wrote : Type 0} (files : Files) (g h : Grammar) (status : Status) (old new : Option (List ℕ)) (answer : Answer) where
   -- what the answer to two texts decides
   by_texts : (question : Question) (c : ComparesFiles words files question g h) → status ≡ status_of answer → Appended old new (text_of answer)
-      → IsOfFault rose answer ⊎ Compares question c.first c.second c.first_text c.second_text answer → IsCutShort status rose ⊎ DecidesComparison g h status old new question
+      → IsOfFault rose answer ⊎ Compares question c.first c.second c.first_text c.second_text answer → IsCutShort status rose wrote ⊎ DecidesComparison g h status old new question
   by_texts question c is written (inl fault) = inl (cut_short status answer is fault)
   by_texts question c is written (inr x) = inr (decides g h status old new question answer is written (compared_of c.first_spells c.second_spells x))
 
   pub includes : {reads : List Read} → ComparesFiles words files inclusion g h → AreTrue (Some files) rose reads → IsAnswer words reads answer → status ≡ status_of answer → Appended old new (text_of answer)
-      → IsCutShort status rose ⊎ DecidesComparison g h status old new inclusion
+      → IsCutShort status rose wrote ⊎ DecidesComparison g h status old new inclusion
   includes c true right is written =
       by_texts inclusion c is written
       (read (read_all rose files _ c.words_are (holds c.first_held (holds c.second_held no_file)) (is_short c.first_short (is_short c.second_short none_long)) true right))
@@ -43,7 +43,7 @@ module _ {words : List (List ℕ)} {rose : Type 0} (files : Files) (g h : Gramma
       read (inr x) = inr (inclusion_of x)
 
   pub equals : {reads : List Read} → ComparesFiles words files equality g h → AreTrue (Some files) rose reads → IsAnswer words reads answer → status ≡ status_of answer → Appended old new (text_of answer)
-      → IsCutShort status rose ⊎ DecidesComparison g h status old new equality
+      → IsCutShort status rose wrote ⊎ DecidesComparison g h status old new equality
   equals c true right is written =
       by_texts equality c is written
       (read (read_all rose files _ c.words_are (holds c.first_held (holds c.second_held no_file)) (is_short c.first_short (is_short c.second_short none_long)) true right))

@@ -23,8 +23,8 @@ pub fault_not_told : {P : Type 0} → (WriteFault ≡ Yes) ⊎ (WriteFault ≡ N
 fault_not_told (inl e) = fault_not_yes e
 fault_not_told (inr e) = fault_not_no e
 
-pub by_memory : {P Q : Type 0} → IsCutShort NoMemory P ⊎ Q
+pub by_memory : {P W Q : Type 0} → IsCutShort NoMemory P W ⊎ Q
 by_memory = inl (inl refl)
 
-pub by_fault : {P Q : Type 0} → IsCutShort WriteFault P ⊎ Q
-by_fault = inl (inr (inl refl))
+pub by_fault : {P W Q : Type 0} → W → IsCutShort WriteFault P W ⊎ Q
+by_fault rose = inl (inr (inl (refl, rose)))

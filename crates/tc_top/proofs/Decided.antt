@@ -1,26 +1,31 @@
 -- What is decided of texts is what commands answer on them.
-use Rattle.std.proofs.Common.{◌≡◌, ◌≤◌, ◌⊎◌, inl, inr, sym, ap, subst, ℕ, List, length, Result, Ok, Err}
-use Rattle.tc_answer.specs.Answers.{Answer, certificate, certificate_limit, rejected, refused, rows_limit, has_result}
+use Rattle.std.proofs.Common.{◌≡◌, ◌≤◌, ◌⊎◌, inl, inr, refl, sym, ap, subst, Bool, true, false, ℕ, List, length, Result, Ok, Err}
+use Rattle.std.proofs.lemmas.Bool.{true≢false}
+use Rattle.tc_base.specs.declared.Limit.{Limit}
+use Rattle.tc_answer.specs.Answers.{Answer, certificate, certificate_limit, over_limit, rejected, refused, rows_limit, has_result}
 use Rattle.tc_answer.specs.AnswersSeen.{Says}
 use Rattle.tc_answer.specs.declared.answer.Answer as made
 use Rattle.tc_answer.specs.declared.status.Status.TheVariants.{Yes, No}
 use Rattle.tc_base.specs.Reading.{longest_text}
 use Rattle.tc_cert.specs.Texts.{text, by_changes}
 use Rattle.tc_cert.proofs.FirstFaults.{one_data}
-use Rattle.tc_decide.specs.Certificates.{HasShortCertificate, IsTextOfLeast, PassesInProof, DecidesProof}
+use Rattle.tc_decide.specs.Certificates.{HasShortCertificate, IsTextOfLeast, PassesInProof, DecidesProofWithin}
 use Rattle.tc_decide.specs.Checking.{most_of, IsWithinTripleLimits}
 use Rattle.tc_decide.specs.Comparing.{Question, inclusion, equality, AreSpelled, TellsRefusalOfPair, in_inclusion, in_first, in_second, PassesComparison, TellsPairLimit, IfDifferent, DecidesInclusion, DecidesEquality, TellsInclusionCounts}
-use Rattle.tc_decide.specs.Deciding.{AreAccepted, IsFirstRefused, TellsRefusal, KeepsAll, DecidesSafety, TellsCounts}
+use Rattle.tc_decide.specs.Deciding.{AreAccepted, IsFirstRefused, TellsRefusal, KeepsAll, DecidesWithin, TellsCounts}
 use Rattle.tc_decide.specs.Limits.{IsRunWithin}
+use Rattle.tc_decide.specs.Pieces.{PassesInPieces, DecidesInPieces as DecidesPieces, TellsLimitInPieces, TellsRefusalInPieces}
 use Rattle.tc_decide.specs.Rejections.{Rejection, rejection, IsRejectionOf, of_form, of_rule}
 use Rattle.tc_decide.specs.RowCounts.{RowCount, row_count}
 use Rattle.tc_decide.specs.Running.{AreRunAccepted, TellsRefusalOfRun, PassesRun, TellsRunLimit}
 use Rattle.tc_decide.specs.Texts.{Spells}
+use Rattle.tc_decide.specs.Validating.{PassesValidity, passes_schema, passes_symbols, AreRead, TellsRefusalOfDocument, DecidesValidity, TellsValidityLimit}
 use Rattle.tc_decide.specs.Verified.{OnAccepted, DecidesCertificate, TellsTextLimit, DecidesUpgrade, TellsUpgradeLimit}
 use Rattle.tc_decide.specs.declared.failure.Failure.{Failure}
 use Rattle.tc_decide.specs.declared.failure.Failure.TheVariants.{Refused, Passes, NoMemory}
 use Rattle.tc_decide.specs.declared.failure.Kind.{Kind}
-use Rattle.tc_decide.specs.declared.failure.Kind.TheVariants.{Texts, Rows, Nodes, Certificate, Work, Open}
+use Rattle.tc_decide.specs.declared.failure.Kind.TheVariants.{Texts, Rows, Nodes, Certificate, Work, Open, Pieces}
+use Rattle.tc_decide.specs.declared.failure.PieceMeasure.TheVariants.{Tag, Names}
 use Rattle.tc_decide.specs.declared.failure.Which.{Which}
 use Rattle.tc_decide.specs.declared.failure.Which.TheVariants as which
 use Rattle.tc_decide.specs.declared.limits.TheConstants.{LONGEST_CERTIFICATE}
@@ -49,11 +54,12 @@ use Rattle.tc_model.specs.declared.lists.CertData.{CertData}
 use Rattle.tc_print.specs.ReadBack.{IsReadAs}
 use Rattle.tc_read.specs.Sheets.{IsSheetOf}
 use Rattle.tc_read.specs.declared.faults.Reason.{Reason}
-use Rattle.tc_top.specs.Causes.{Finds, passes_before_rows, passes_rows, finds_safe, finds_unsafe, finds_large, finds_none_small, OfTexts, refuses_input, refuses_output, refuses_sheet, all_three, Runs, sheet_passes, too_much_work, too_open, gives_result, RunsTexts, sheet_refused, source_refused, sheet_and_source}
+use Rattle.tc_top.specs.Causes.{Finds, passes_before_rows, passes_rows, finds_safe, finds_unsafe, finds_large, finds_none_small, OfTexts, refuses_input, refuses_output, refuses_sheet, all_three, Runs, sheet_passes, too_much_work, too_open, gives_result, RunsTexts, sheet_refused, source_refused, sheet_and_source, Decides, passes, too_many_symbols, decides_valid, decides_invalid, Validates, schema_refused, document_refused, both_read}
 use Rattle.tc_top.specs.Certifying.{Certifies, as_checked, certifies, overlong, Accepts, stops_before_rows, accepts, no_text, no_certificate, Upgrades, upgrades, too_long, no_form}
 use Rattle.tc_top.specs.Comparing.{FindsInclusion, inclusion_passes, inclusion_covers, finds_included, finds_not_included, finds_none_shown, FindsEquality, equality_passes, equality_covers_forward, equality_covers_backward, finds_equal, finds_first_only, finds_second_only, finds_no_one_shown, FindsBoth, Compares, first_refused, second_refused, both_schemas}
+use Rattle.tc_top.specs.InPieces.{DecidesInPieces, schema_limited, text_refused, tag_passed, names_passed, document_valid, document_invalid, ValidatesInPieces, schema_is_refused, schema_is_read}
 use Rattle.tc_top.specs.SchemaTexts.{IsTextOf}
-use Rattle.tc_top.specs.VerdictsSeen.{verdict_answer, limit_answer, name_by, name_of_two, proof_answer, verification_answer, upgrade_answer, inclusion_answer, equality_answer, SaysFailure, SaysFailureBy}
+use Rattle.tc_top.specs.VerdictsSeen.{verdict_answer, limit_answer, name_by, name_of_two, proof_answer, verification_answer, upgrade_answer, inclusion_answer, equality_answer, validity_answer, SaysFailure, SaysFailureBy}
 use Rattle.tc_top.proofs.CertifyingCalls.{limit_is_not_yes}
 use Rattle.tc_top.proofs.SchemaTextLaws.{spelled_as_text, refused_as_text}
 
@@ -102,7 +108,7 @@ module _ (n m w b c d : List ℕ) (input output : Text) (input_is : IsTextOf n b
 -- what a verdict decides
 
 module _ (most : ℕ) (i o : Grammar) (s : Sheet) where
-  pub found : (verdict : Verdict) → DecidesSafety most i o s (Ok verdict) → TellsCounts most i o s (Ok verdict) → Finds most i o s (verdict_answer verdict)
+  pub found : (verdict : Verdict) → DecidesWithin most i o s (Ok verdict) → TellsCounts most i o s (Ok verdict) → Finds most i o s (verdict_answer verdict)
   found (Safe rows) h k = let (keeps, safe) = h.yes.0 tt in finds_safe keeps.0 keeps.1 k safe
   found (Unsafe document (Shown output)) h k = let (keeps, small) = h.no.0 tt in finds_unsafe keeps.0 keeps.1 h.least.0 h.least.1.0 h.least.1.1
   found (Unsafe document TooLarge) h k = let (keeps, small) = h.no.0 tt in finds_large keeps.0 keeps.1 h.least.0 h.least.1
@@ -118,13 +124,14 @@ module _ (most : ℕ) (i o : Grammar) (s : Sheet) where
   limited Certificate number p = absurd p
   limited Work number p = absurd p
   limited Open number p = absurd p
+  limited (Pieces measure) number p = absurd p
 
   -- what a proof decides
   certifies_by : (bytes : List ℕ) → KeepsAll i o s most → IsSafe i o s → HasShortCertificate i o s → IsTextOfLeast i o s bytes → Certifies i o s most (certificate bytes)
-  certifies_by bytes keeps safe (e, m, short) (x, l, same) =
+  certifies_by bytes keeps safe (e, m, short) (x, l, is, within, same) =
       subst (λ k. Certifies i o s most (certificate k)) (sym same) (certifies keeps.0 keeps.1 safe l (subst (λ y. length (text by_changes y) ≤ LONGEST_CERTIFICATE) (one_least e x m l) short))
 
-  pub proved : (proof : Proof) → DecidesProof i o s most (Ok proof) → Certifies i o s most (proof_answer proof)
+  pub proved : (proof : Proof) → DecidesProofWithin i o s most (Ok proof) → Certifies i o s most (proof_answer proof)
   proved (proofs.Certified bytes) h = let (keeps, safe, short) = h.yes.0 tt in certifies_by bytes.items keeps safe short h.certificate
   proved (proofs.Unsafe document (Shown output)) h = let (keeps, small) = h.no.0 tt in as_checked (finds_unsafe keeps.0 keeps.1 h.least.0 h.least.1.0 h.least.1.1) no_is_not_yes
   proved (proofs.Unsafe document TooLarge) h = let (keeps, small) = h.no.0 tt in as_checked (finds_large keeps.0 keeps.1 h.least.0 h.least.1) no_is_not_yes
@@ -136,6 +143,7 @@ module _ (most : ℕ) (i o : Grammar) (s : Sheet) where
   limited_proof Certificate number p = overlong p.0.0 p.0.1 p.1 p.2
   limited_proof Work number p = absurd p
   limited_proof Open number p = absurd p
+  limited_proof (Pieces measure) number p = absurd p
 
 module _ (bytes : List ℕ) (i o : Grammar) (s : Sheet) where
   -- what a verification decides
@@ -154,6 +162,7 @@ module _ (bytes : List ℕ) (i o : Grammar) (s : Sheet) where
   limited_verification Certificate number p = absurd p
   limited_verification Work number p = absurd p
   limited_verification Open number p = absurd p
+  limited_verification (Pieces measure) number p = absurd p
 
 -- what an upgrade decides
 pub upgraded_by : (bytes : List ℕ) (upgrade : Upgrade) → length bytes ≤ longest_text → DecidesUpgrade bytes (Ok upgrade) → Upgrades bytes (upgrade_answer upgrade)
@@ -173,6 +182,7 @@ upgrade_fails bytes name (Passes (Rows count) number) said h says = absurd h
 upgrade_fails bytes name (Passes Nodes number) said h says = absurd h
 upgrade_fails bytes name (Passes Work number) said h says = absurd h
 upgrade_fails bytes name (Passes Open number) said h says = absurd h
+upgrade_fails bytes name (Passes (Pieces measure) number) said h says = absurd h
 upgrade_fails bytes name NoMemory said h says = absurd says
 
 -- what a run decides
@@ -192,6 +202,7 @@ module _ (n m b c : List ℕ) where
   limited_run s d (Rows count) number p = absurd p
   limited_run s d Nodes number p = absurd p
   limited_run s d Certificate number p = absurd p
+  limited_run s d (Pieces measure) number p = absurd p
 
   pub run_fails : (failure : Failure) (said : made.Answer) → TellsRefusalOfRun b c (Err failure) → ((s : Sheet) (d : Trees) → IsSheetOf b s → IsReadAs c d → TellsRunLimit s d (Err failure))
       → SaysFailureBy (name_of_two n m) failure said → (answer : Answer) × Says said answer × RunsTexts n m b c answer
@@ -214,6 +225,7 @@ limited_pair inclusion x y Nodes number (k, l, same) = finds_none_shown k.0 k.1 
 limited_pair inclusion x y Certificate number p = absurd p
 limited_pair inclusion x y Work number p = absurd p
 limited_pair inclusion x y Open number p = absurd p
+limited_pair inclusion x y (Pieces measure) number p = absurd p
 limited_pair equality x y (Texts kind) number p = equality_passes p
 limited_pair equality x y (Rows count) number (w, in_first p, same) = subst (λ k. FindsEquality x y (rows_limit (row_count count) k)) (sym same) (equality_covers_forward (row_count count) w p)
 limited_pair equality x y (Rows count) number (w, in_second f p, same) = subst (λ k. FindsEquality x y (rows_limit (row_count count) k)) (sym same) (equality_covers_backward (row_count count) w f p)
@@ -221,6 +233,7 @@ limited_pair equality x y Nodes number (k, l, same) = finds_no_one_shown k.0 k.1
 limited_pair equality x y Certificate number p = absurd p
 limited_pair equality x y Work number p = absurd p
 limited_pair equality x y Open number p = absurd p
+limited_pair equality x y (Pieces measure) number p = absurd p
 
 pub included_by : (x y : Grammar) (v : Inclusion) → DecidesInclusion x y (Ok v) → TellsInclusionCounts x y (Ok v) → FindsInclusion x y (inclusion_answer v)
 included_by x y (Included tree_rows hedge_rows) d n = let (k, so) = d.yes.0 tt in finds_included k.0 k.1 so n.0 n.1
@@ -246,3 +259,63 @@ module _ (n m b c : List ℕ) (first second : Text) (first_is : IsTextOf n b fir
   pair_fails question V (Passes kind number) said ((x, p), (y, q)) limits says =
       (_, says, both_schemas (spelled_as_text n b first first_is x p) (spelled_as_text m c second second_is y q) (limited_pair question x y kind number (limits x y p q)))
   pair_fails question V NoMemory said r limits says = absurd says
+
+-- what a validation decides
+
+valid_is : (x : Grammar) (d : Trees) (valid : Bool) → DecidesValidity x d (Ok valid) → Decides x d (validity_answer valid)
+valid_is x d true h = let (w, v) = h.yes.0 refl in decides_valid w v
+valid_is x d false h = let (w, v) = h.no.0 (λ e. true≢false (sym e)) in decides_invalid w v
+
+limit_is : {x : Grammar} {d : Trees} {kind : Limit} {number : ℕ} → PassesValidity x kind number → Decides x d (over_limit kind number)
+limit_is (passes_schema p) = passes p
+limit_is (passes_symbols within many) = too_many_symbols within many
+
+module _ (n m b c : List ℕ) (schema : Text) (schema_is : IsTextOf n b schema) where
+  pub valid_gives : (valid : Bool) → AreRead schema c → ((x : Grammar) (d : Trees) → Spells schema x → IsReadAs c d → DecidesValidity x d (Ok valid)) → Validates n m b c (validity_answer valid)
+  valid_gives valid ((x, p), (d, q)) f = both_read (spelled_as_text n b schema schema_is x p) q (valid_is x d valid (f x d p q))
+
+  pub valid_fails : (failure : Failure) (said : made.Answer) → TellsRefusalOfDocument schema c (Err failure) → ((x : Grammar) → Spells schema x → TellsValidityLimit x (Err failure))
+      → SaysFailureBy (name_of_two n m) failure said → (answer : Answer) × Says said answer × Validates n m b c answer
+  valid_fails (Refused which.Input reason at) said r limits says = (_, says, schema_refused (refused_as_text n b schema schema_is reason (place at) r))
+  valid_fails (Refused which.Output reason at) said r limits says = absurd r
+  valid_fails (Refused which.Sheet reason at) said r limits says = absurd r
+  valid_fails (Refused which.Document reason at) said ((x, p), r) limits says = (_, says, document_refused (spelled_as_text n b schema schema_is x p) r)
+  valid_fails (Passes (Texts kind) number) said ((x, p), (d, q)) limits says = (_, says, both_read (spelled_as_text n b schema schema_is x p) q (limit_is (limits x p)))
+  valid_fails (Passes (Rows count) number) said ((x, p), (d, q)) limits says = absurd (limits x p)
+  valid_fails (Passes Nodes number) said ((x, p), (d, q)) limits says = absurd (limits x p)
+  valid_fails (Passes Certificate number) said ((x, p), (d, q)) limits says = absurd (limits x p)
+  valid_fails (Passes Work number) said ((x, p), (d, q)) limits says = absurd (limits x p)
+  valid_fails (Passes Open number) said ((x, p), (d, q)) limits says = absurd (limits x p)
+  valid_fails (Passes (Pieces measure) number) said ((x, p), (d, q)) limits says = absurd (limits x p)
+  valid_fails NoMemory said r limits says = absurd says
+
+-- what the validation of a document in pieces decides
+
+pieces_are : (x : Grammar) (name c : List ℕ) (valid : Bool) → DecidesPieces x c (Ok valid) → DecidesInPieces x name c (validity_answer valid)
+pieces_are x name c true h = let (w, (t, good, v)) = h.yes.0 refl in document_valid w good v
+pieces_are x name c false h = let (w, (t, good, v)) = h.no.0 (λ e. true≢false (sym e)) in document_invalid w good v
+
+piece_limit : (x : Grammar) (name c : List ℕ) (kind : Kind) (number : ℕ) → PassesInPieces x c kind number → DecidesInPieces x name c (limit_answer kind number)
+piece_limit x name c (Texts kind) number p = schema_limited p
+piece_limit x name c (Pieces Tag) number (w, (at, t), same) = tag_passed w t
+piece_limit x name c (Pieces Names) number (w, (at, t), same) = names_passed w t
+piece_limit x name c (Rows count) number p = absurd p
+piece_limit x name c Nodes number p = absurd p
+piece_limit x name c Certificate number p = absurd p
+piece_limit x name c Work number p = absurd p
+piece_limit x name c Open number p = absurd p
+
+module _ (n m b c : List ℕ) (schema : Text) (schema_is : IsTextOf n b schema) where
+  pub pieces_give : (valid : Bool) → TellsRefusalInPieces schema c (Ok valid) → ((x : Grammar) → Spells schema x → DecidesPieces x c (Ok valid)) → ValidatesInPieces n m b c (validity_answer valid)
+  pieces_give valid ((x, p), good) f = schema_is_read (spelled_as_text n b schema schema_is x p) (pieces_are x m c valid (f x p))
+
+  pub pieces_fail : (failure : Failure) (said : made.Answer) → TellsRefusalInPieces schema c (Err failure) → ((x : Grammar) → Spells schema x → TellsLimitInPieces x c (Err failure))
+      → SaysFailureBy (name_of_two n m) failure said → (answer : Answer) × Says said answer × ValidatesInPieces n m b c answer
+  pieces_fail (Refused which.Input reason at) said r limits says =
+      (refused n reason (place at), says, schema_is_refused (refused_as_text n b schema schema_is reason (place at) r))
+  pieces_fail (Refused which.Output reason at) said r limits says = absurd r
+  pieces_fail (Refused which.Sheet reason at) said r limits says = absurd r
+  pieces_fail (Refused which.Document reason at) said (x, p, w, r) limits says =
+      (refused m reason (place at), says, schema_is_read (spelled_as_text n b schema schema_is x p) (text_refused {reason = reason} {place = place at} w r))
+  pieces_fail (Passes kind number) said (x, p) limits says = (limit_answer kind number, says, schema_is_read (spelled_as_text n b schema schema_is x p) (piece_limit x m c kind number (limits x p)))
+  pieces_fail NoMemory said r limits says = absurd says

@@ -17,30 +17,32 @@ use Rattle.tc_top.specs.OneAnswer.{IsOfFault}
 use Rattle.tc_answer.proofs.ReadsOnce.{no_file, holds, none_long, is_short}
 use Rattle.tc_top.proofs.Exact.{read_all}
 use Rattle.tc_top.proofs.Headline.{cut_short, before_rows_lines}
-use Rattle.tc_top.proofs.OneInPieces.{over_validity, one_validity_limit, no_tree, refused_within, good_within, passes_within, one_measure, not_valid_at, decided_of}
+use Rattle.tc_decide.proofs.InPieces.{no_tree, good_within, passes_within}
+use Rattle.tc_decide.proofs.Judged.{not_within}
+use Rattle.tc_top.proofs.OneInPieces.{one_validity_limit, refused_within, one_measure, not_valid_at, decided_of}
 
 module _ (g : Grammar) (name bytes : List ℕ) (status : Status) (old new : Option (List ℕ)) where
   abbrev Decides : Type 0
   Decides = DecidesValidityInPieces status old new g name bytes
 
   not_limited : IsValidityWithin g → IsWithinMeasures bytes → IsLimitedInPieces g bytes → ⊥
-  not_limited w within (limited_by_schema p) = over_validity p w
+  not_limited w within (limited_by_schema p) = not_within p w
   not_limited w within (limited_by_measure x p) = passes_within p within
 
   -- what is decided decides all
   decides : {answer : Answer} → status ≡ status_of answer → Appended old new (text_of answer) → DecidesInPieces g name bytes answer → Decides
   decides is written (schema_limited p) = record {
-    yes = (λ e. absurd (let k = sym is ∙ e in cc), λ x. absurd (over_validity p x.0));
-    no = (λ e. absurd (let k = sym is ∙ e in cc), λ x. absurd (over_validity p x.0));
-    refusal = (λ e. absurd (let k = sym is ∙ e in cc), λ x. absurd (over_validity p x.0));
+    yes = (λ e. absurd (let k = sym is ∙ e in cc), λ x. absurd (not_within p x.0));
+    no = (λ e. absurd (let k = sym is ∙ e in cc), λ x. absurd (not_within p x.0));
+    refusal = (λ e. absurd (let k = sym is ∙ e in cc), λ x. absurd (not_within p x.0));
     limit = (λ _. limited_by_schema p, λ _. is);
     one = inr (inr (inr is));
     yes_text = λ e. absurd (let k = sym is ∙ e in cc);
     no_text = λ e. absurd (let k = sym is ∙ e in cc);
     refused_text = λ e. absurd (let k = sym is ∙ e in cc);
     schema_text = λ kind number q. before_rows_lines old new (one_validity_limit p q) written;
-    tag_text = λ place w t. absurd (over_validity p w);
-    names_text = λ place w n. absurd (over_validity p w);
+    tag_text = λ place w t. absurd (not_within p w);
+    names_text = λ place w n. absurd (not_within p w);
   }
   decides is written (text_refused {reason = r} {place = k} w x) = record {
     yes = (λ e. absurd (let k = sym is ∙ e in cc), λ v. absurd (no_tree r k x v.1.1.reads));
@@ -51,7 +53,7 @@ module _ (g : Grammar) (name bytes : List ℕ) (status : Status) (old new : Opti
     yes_text = λ e. absurd (let k = sym is ∙ e in cc);
     no_text = λ e. absurd (let k = sym is ∙ e in cc);
     refused_text = λ _. (r, k, x, written);
-    schema_text = λ kind number p. absurd (over_validity p w);
+    schema_text = λ kind number p. absurd (not_within p w);
     tag_text = λ place v t. absurd (passes_within t (refused_within r k x));
     names_text = λ place v n. absurd (passes_within n (refused_within r k x));
   }
@@ -64,7 +66,7 @@ module _ (g : Grammar) (name bytes : List ℕ) (status : Status) (old new : Opti
     yes_text = λ e. absurd (let k = sym is ∙ e in cc);
     no_text = λ e. absurd (let k = sym is ∙ e in cc);
     refused_text = λ e. absurd (let k = sym is ∙ e in cc);
-    schema_text = λ kind number p. absurd (over_validity p w);
+    schema_text = λ kind number p. absurd (not_within p w);
     tag_text = λ place v u. written;
     names_text = λ place v n. absurd (one_measure t n);
   }
@@ -77,7 +79,7 @@ module _ (g : Grammar) (name bytes : List ℕ) (status : Status) (old new : Opti
     yes_text = λ e. absurd (let k = sym is ∙ e in cc);
     no_text = λ e. absurd (let k = sym is ∙ e in cc);
     refused_text = λ e. absurd (let k = sym is ∙ e in cc);
-    schema_text = λ kind number p. absurd (over_validity p w);
+    schema_text = λ kind number p. absurd (not_within p w);
     tag_text = λ place v t. absurd (one_measure t n);
     names_text = λ place v m. written;
   }
@@ -90,7 +92,7 @@ module _ (g : Grammar) (name bytes : List ℕ) (status : Status) (old new : Opti
     yes_text = λ _. written;
     no_text = λ e. absurd (let k = sym is ∙ e in cc);
     refused_text = λ e. absurd (let k = sym is ∙ e in cc);
-    schema_text = λ kind number p. absurd (over_validity p w);
+    schema_text = λ kind number p. absurd (not_within p w);
     tag_text = λ place x t. absurd (passes_within t (good_within good));
     names_text = λ place x n. absurd (passes_within n (good_within good));
   }
@@ -103,7 +105,7 @@ module _ (g : Grammar) (name bytes : List ℕ) (status : Status) (old new : Opti
     yes_text = λ e. absurd (let k = sym is ∙ e in cc);
     no_text = λ _. written;
     refused_text = λ e. absurd (let k = sym is ∙ e in cc);
-    schema_text = λ kind number p. absurd (over_validity p w);
+    schema_text = λ kind number p. absurd (not_within p w);
     tag_text = λ place x t. absurd (passes_within t (good_within good));
     names_text = λ place x n. absurd (passes_within n (good_within good));
   }
@@ -111,12 +113,12 @@ module _ (g : Grammar) (name bytes : List ℕ) (status : Status) (old new : Opti
 in_pieces_of : {size : ℕ} {schema document b c : List ℕ} {answer : Answer} → IsAnswerTo (valid_in_pieces size schema document) (b ∷ c ∷ []) answer → ValidatesInPieces schema document b c answer
 in_pieces_of (validated_in_pieces x) = x
 
-pub validity_in_pieces : {words : List (List ℕ)} {rose : Type 0} {reads : List Read} (files : Files) (g : Grammar) (name bytes : List ℕ) (status : Status) (old new : Option (List ℕ)) (answer : Answer)
+pub validity_in_pieces : {words : List (List ℕ)} {rose wrote : Type 0} {reads : List Read} (files : Files) (g : Grammar) (name bytes : List ℕ) (status : Status) (old new : Option (List ℕ)) (answer : Answer)
     → ValidatesFilesInPieces words files g name bytes → AreTrue (Some files) rose reads → IsAnswer words reads answer → status ≡ status_of answer → Appended old new (text_of answer)
-    → IsCutShort status rose ⊎ DecidesValidityInPieces status old new g name bytes
-validity_in_pieces {words} {rose} {reads} files g name bytes status old new answer c true right is written =
+    → IsCutShort status rose wrote ⊎ DecidesValidityInPieces status old new g name bytes
+validity_in_pieces {words} {rose} {wrote} {reads} files g name bytes status old new answer c true right is written =
     by (read_all rose files _ c.words_are (holds c.schema_held (holds c.document_held no_file)) (is_short c.schema_short (is_short c.document_short none_long)) true right)
   where
-    by : IsOfFault rose answer ⊎ IsAnswerTo (valid_in_pieces c.size c.schema name) (c.schema_text ∷ bytes ∷ []) answer → IsCutShort status rose ⊎ DecidesValidityInPieces status old new g name bytes
+    by : IsOfFault rose answer ⊎ IsAnswerTo (valid_in_pieces c.size c.schema name) (c.schema_text ∷ bytes ∷ []) answer → IsCutShort status rose wrote ⊎ DecidesValidityInPieces status old new g name bytes
     by (inl fault) = inl (cut_short status answer is fault)
     by (inr x) = inr (decides g name bytes status old new is written (decided_of {schema = c.schema} c.schema_spells (in_pieces_of x)))

@@ -19,7 +19,7 @@ use Rattle.tc_answer.specs.Answers.{Answer, usage, cannot_read, file_limit, safe
 use Rattle.tc_top.specs.Answers.{IsAnswerTo, checked, ran, validated, shown, IsAnswer, Ends, KeepsToLimits}
 use Rattle.tc_top.specs.Causes.{Finds, passes_before_rows, passes_rows, finds_safe, finds_unsafe, finds_large, finds_none_small, Runs, sheet_passes, too_much_work, too_open, gives_result, Checks, Validates, RunsTexts}
 use Rattle.tc_top.specs.AnswersSeen.{IsRightFor}
-use Rattle.tc_top.specs.OneAnswer.{AreAlike, same_answer, GivesOneLike, IsOfFault}
+use Rattle.tc_top.specs.OneAnswer.{AreAlike, same_answer, IsOfFault}
 use Rattle.tc_answer.specs.declared.answer.Answer.{Answer as Said}
 use Rattle.tc_answer.specs.declared.status.Status.{Status}
 use Rattle.tc_answer.specs.declared.status.Status.TheVariants.{Yes, No, Limit}
@@ -31,7 +31,7 @@ use Rattle.tc_top.specs.Demo.{demo_schema, demo_sheet, input_name, output_name, 
 use Rattle.tc_decide.specs.declared.limits.TheConstants.{MOST_ROWS}
 use Rattle.tc_answer.specs.Words.{Words, check, run, valid, demo, schema, plain}
 use Rattle.tc_answer.proofs.ReadsOnce.{AreHeld, no_file, holds, AreShort, none_long, is_short}
-use Rattle.tc_top.proofs.Exact.{Agrees, decided_only, shown_reads, read_all, held_decided}
+use Rattle.tc_top.proofs.Exact.{decided_only, shown_reads, read_all, held_decided}
 use Rattle.tc_decide.proofs.Deciding.{not_both, near_far}
 use Rattle.tc_decide.proofs.Passing.{over_triple}
 use Rattle.tc_top.proofs.OneCheck.{one_triple_limit, decided_of}
@@ -41,7 +41,7 @@ use Rattle.tc_decide.proofs.Sheets.{one_result}
 use Rattle.tc_top.proofs.OneRun.{runs_of, not_within, not_few, not_low}
 
 -- a call that tells of a fault of reading is cut short
-pub cut_short : {rose : Type 0} (status : Status) (answer : Answer) → status ≡ status_of answer → IsOfFault rose answer → IsCutShort status rose
+pub cut_short : {rose wrote : Type 0} (status : Status) (answer : Answer) → status ≡ status_of answer → IsOfFault rose answer → IsCutShort status rose wrote
 cut_short status (cannot_read name) e h = inr (inr (e, h))
 cut_short status usage e h = absurd h
 cut_short status file_limit e h = absurd h
@@ -69,11 +69,6 @@ cut_short status names_limit e h = absurd h
 cut_short status (has_result result) e h = absurd h
 cut_short status work_limit e h = absurd h
 cut_short status open_limit e h = absurd h
-
-pub gives : {rose : Type 0} (status : Status) (old new : Option (List ℕ)) (one other : Answer) → status ≡ status_of other → Appended old new (text_of other) → Agrees rose one other
-    → IsCutShort status rose ⊎ GivesOneLike status old new one
-gives status old new one other e written (inl alike) = inr (record { given = other; alike = alike; status_is = e; written = written })
-gives status old new one other e written (inr fault) = inl (cut_short status other e fault)
 
 -- an answer that is right for the same words
 pub at_words : {words other : List (List ℕ)} {happened : List Read → Type 0} {said : Said} → words ≡ other → IsRightFor words happened said → IsRightFor other happened said
@@ -216,17 +211,17 @@ told_of_file (inl e) (inr f) = absurd (let g = sym (ap status_of e) ∙ f in cc)
 told_of_file (inr (name, e)) (inl f) = absurd (let g = sym (ap status_of e) ∙ f in cc)
 told_of_file (inr (name, e)) (inr f) = absurd (let g = sym (ap status_of e) ∙ f in cc)
 
-pub headline : {words : List (List ℕ)} {rose : Type 0} {reads : List Read} (files : Files) (limit : Option ℕ) (i o : Grammar) (s : Sheet) (status : Status) (old new : Option (List ℕ)) (answer : Answer)
+pub headline : {words : List (List ℕ)} {rose wrote : Type 0} {reads : List Read} (files : Files) (limit : Option ℕ) (i o : Grammar) (s : Sheet) (status : Status) (old new : Option (List ℕ)) (answer : Answer)
     → ChecksShortFiles words files limit i o s → AreTrue (Some files) rose reads → IsAnswer words reads answer → status ≡ status_of answer → Appended old new (text_of answer)
-    → IsCutShort status rose ⊎ DecidesSafety status old new (most_rows limit) i o s
-headline {words} {rose} {reads} files limit i o s status old new answer short true right is written =
+    → IsCutShort status rose wrote ⊎ DecidesSafety status old new (most_rows limit) i o s
+headline {words} {rose} {wrote} {reads} files limit i o s status old new answer short true right is written =
     by (read_all rose files _ c.words_are (files_of c) (is_short short.input_short (is_short short.output_short (is_short short.sheet_short none_long))) true right)
   where
     c : ChecksFiles words files limit i o s
     c = short.checks
 
     by : IsOfFault rose answer ⊎ IsAnswerTo (check limit c.input c.output c.sheet) (c.input_text ∷ c.output_text ∷ c.sheet_text ∷ []) answer
-        → IsCutShort status rose ⊎ DecidesSafety status old new (most_rows limit) i o s
+        → IsCutShort status rose wrote ⊎ DecidesSafety status old new (most_rows limit) i o s
     by (inl fault) = inl (cut_short status answer is fault)
     by (inr x) = inr (decides (most_rows limit) i o s status old new is written (decided_of c.input_spells c.output_spells c.sheet_spells (checks_of x)))
 
@@ -312,13 +307,13 @@ settled status old new is written (settles_invalid n) = record {
   no_text = λ _. written;
 }
 
-pub validity : {words : List (List ℕ)} {rose : Type 0} {reads : List Read} (files : Files) (g : Grammar) (d : Trees) (status : Status) (old new : Option (List ℕ)) (answer : Answer) → ValidatesFiles words files g d
+pub validity : {words : List (List ℕ)} {rose wrote : Type 0} {reads : List Read} (files : Files) (g : Grammar) (d : Trees) (status : Status) (old new : Option (List ℕ)) (answer : Answer) → ValidatesFiles words files g d
     → AreTrue (Some files) rose reads → IsAnswer words reads answer → status ≡ status_of answer → Appended old new (text_of answer)
-    → IsCutShort status rose ⊎ DecidesValidity status old new g d
-validity {words} {rose} {reads} files g d status old new answer c true right is written =
+    → IsCutShort status rose wrote ⊎ DecidesValidity status old new g d
+validity {words} {rose} {wrote} {reads} files g d status old new answer c true right is written =
     by (read_all rose files _ c.words_are (holds c.schema_held (holds c.document_held no_file)) (is_short c.schema_short (is_short c.document_short none_long)) true right)
   where
-    by : IsOfFault rose answer ⊎ IsAnswerTo (valid c.schema c.document) (c.schema_text ∷ c.document_text ∷ []) answer → IsCutShort status rose ⊎ DecidesValidity status old new g d
+    by : IsOfFault rose answer ⊎ IsAnswerTo (valid c.schema c.document) (c.schema_text ∷ c.document_text ∷ []) answer → IsCutShort status rose wrote ⊎ DecidesValidity status old new g d
     by (inl fault) = inl (cut_short status answer is fault)
     by (inr x) = inr (settled status old new is written (settles c.schema_spells c.document_spells c.within (validates_of x)))
 
@@ -348,19 +343,19 @@ given s d status old new is written (gives_result {result = result} w r) = (
 )
 
 -- a call that is cut short isn't yes
-not_yes : {rose : Type 0} {status : Status} → IsCutShort status rose → status ≡ Yes → ⊥
+not_yes : {rose wrote : Type 0} {status : Status} → IsCutShort status rose wrote → status ≡ Yes → ⊥
 not_yes (inl e) y = absurd (let k = sym e ∙ y in cc)
-not_yes (inr (inl e)) y = absurd (let k = sym e ∙ y in cc)
+not_yes (inr (inl e)) y = absurd (let k = sym e.0 ∙ y in cc)
 not_yes (inr (inr e)) y = absurd (let k = sym e.0 ∙ y in cc)
 
 -- what a call that runs held files decides
-run_decides : {words : List (List ℕ)} {rose : Type 0} {reads : List Read} (files : Files) (s : Sheet) (d : Trees) (status : Status) (old new : Option (List ℕ)) (answer : Answer) → RunsFiles words files s d
+run_decides : {words : List (List ℕ)} {rose wrote : Type 0} {reads : List Read} (files : Files) (s : Sheet) (d : Trees) (status : Status) (old new : Option (List ℕ)) (answer : Answer) → RunsFiles words files s d
     → AreTrue (Some files) rose reads → IsAnswer words reads answer → status ≡ status_of answer → Appended old new (text_of answer)
-    → IsCutShort status rose ⊎ (KeepsToLimits status old new s d × GivesResult status old new s d)
-run_decides {words} {rose} {reads} files s d status old new answer c true right is written =
+    → IsCutShort status rose wrote ⊎ (KeepsToLimits status old new s d × GivesResult status old new s d)
+run_decides {words} {rose} {wrote} {reads} files s d status old new answer c true right is written =
     by (read_all rose files _ c.words_are (holds c.sheet_held (holds c.document_held no_file)) (is_short c.sheet_short (is_short c.document_short none_long)) true right)
   where
-    by : IsOfFault rose answer ⊎ IsAnswerTo (run c.sheet c.document) (c.sheet_text ∷ c.document_text ∷ []) answer → IsCutShort status rose ⊎ (KeepsToLimits status old new s d × GivesResult status old new s d)
+    by : IsOfFault rose answer ⊎ IsAnswerTo (run c.sheet c.document) (c.sheet_text ∷ c.document_text ∷ []) answer → IsCutShort status rose wrote ⊎ (KeepsToLimits status old new s d × GivesResult status old new s d)
     by (inl fault) = inl (cut_short status answer is fault)
     by (inr x) = inr (given s d status old new is written (runs_of c.sheet_spells c.document_spells (runs_texts_of x)))
 
@@ -368,14 +363,14 @@ pub running : (rose : Type 0) {words : List (List ℕ)} {reads : List Read} (fil
     → AreTrue (Some files) rose reads → IsAnswer words reads answer → status ≡ status_of answer → Appended old new (text_of answer) → GivesResult status old new s d
 running rose files s d status old new answer c true right is written = by (run_decides files s d status old new answer c true right is written)
   where
-    by : IsCutShort status rose ⊎ (KeepsToLimits status old new s d × GivesResult status old new s d) → GivesResult status old new s d
+    by : IsCutShort status rose ⊥ ⊎ (KeepsToLimits status old new s d × GivesResult status old new s d) → GivesResult status old new s d
     by (inl cut) = λ e. absurd (not_yes cut e)
     by (inr decides) = decides.1
 
-pub limited : {words : List (List ℕ)} {rose : Type 0} {reads : List Read} (files : Files) (s : Sheet) (d : Trees) (status : Status) (old new : Option (List ℕ)) (answer : Answer) → RunsFiles words files s d
-    → AreTrue (Some files) rose reads → IsAnswer words reads answer → status ≡ status_of answer → Appended old new (text_of answer) → IsCutShort status rose ⊎ KeepsToLimits status old new s d
-limited {rose = rose} files s d status old new answer c true right is written = by (run_decides files s d status old new answer c true right is written)
+pub limited : {words : List (List ℕ)} {rose wrote : Type 0} {reads : List Read} (files : Files) (s : Sheet) (d : Trees) (status : Status) (old new : Option (List ℕ)) (answer : Answer) → RunsFiles words files s d
+    → AreTrue (Some files) rose reads → IsAnswer words reads answer → status ≡ status_of answer → Appended old new (text_of answer) → IsCutShort status rose wrote ⊎ KeepsToLimits status old new s d
+limited {rose = rose} {wrote = wrote} files s d status old new answer c true right is written = by (run_decides files s d status old new answer c true right is written)
   where
-    by : IsCutShort status rose ⊎ (KeepsToLimits status old new s d × GivesResult status old new s d) → IsCutShort status rose ⊎ KeepsToLimits status old new s d
+    by : IsCutShort status rose wrote ⊎ (KeepsToLimits status old new s d × GivesResult status old new s d) → IsCutShort status rose wrote ⊎ KeepsToLimits status old new s d
     by (inl cut) = inl cut
     by (inr decides) = inr decides.0

@@ -1,32 +1,30 @@
 -- What the texts of a schema and of a document in pieces decide is one.
-use Rattle.std.proofs.Common.{◌≡◌, ℕ, List, subst, arith}
+use Rattle.std.proofs.Common.{◌≡◌, ℕ, List, subst}
 use Rattle.tc_base.specs.declared.Limit.{Limit}
 use Rattle.tc_model.specs.Grammars.{Grammar}
 use Rattle.tc_model.specs.RawTrees.{RawTrees}
 use Rattle.tc_model.specs.Stripped.{stripped}
 use Rattle.tc_model.specs.Validity.{IsValid}
-use Rattle.tc_model.specs.XmlText.{XmlText}
 use Rattle.tc_model.proofs.XmlTextTrees.{one_raw_tree}
 use Rattle.tc_read.specs.declared.faults.Reason.{Reason}
 use Rattle.tc_stream.specs.Outcomes.{passed}
 use Rattle.tc_stream.specs.XmlTextMeasures.{Measure, tag, names, IsGood, PassesFirst, IsWithinMeasures}
 use Rattle.tc_stream.proofs.FaultsOnce.{comes_once}
-use Rattle.tc_stream.proofs.MeasureLaws.{good_texts_pass_nothing}
 use Rattle.tc_answer.specs.Answers.{Answer, over_limit, refused}
-use Rattle.tc_top.specs.InPieces.{PassesValidity, passes_schema, passes_symbols, IsRefusedInPieces, DecidesInPieces, schema_limited, text_refused, tag_passed, names_passed, document_valid, document_invalid, ValidatesInPieces, schema_is_refused, schema_is_read}
+use Rattle.tc_decide.specs.Validating.{PassesValidity, passes_schema, passes_symbols}
+use Rattle.tc_decide.specs.Pieces.{IsRefusedInPieces}
+use Rattle.tc_top.specs.InPieces.{DecidesInPieces, schema_limited, text_refused, tag_passed, names_passed, document_valid, document_invalid, ValidatesInPieces, schema_is_refused, schema_is_read}
 use Rattle.tc_decide.specs.Limits.{IsValidityWithin}
 use Rattle.tc_top.specs.OneAnswer.{AreAlike, same_answer}
 use Rattle.tc_top.specs.SchemaTexts.{SchemaText}
-use Rattle.tc_top.proofs.OneRefusal.{document_refusals, no_xml}
+use Rattle.tc_top.proofs.OneRefusal.{document_refusals}
+use Rattle.tc_decide.proofs.InPieces.{no_tree, good_within, passes_within}
+use Rattle.tc_decide.proofs.Judged.{not_within}
 use Rattle.tc_decide.proofs.Passing.{over_schema as over}
 use Rattle.tc_top.proofs.OneValidity.{one_limit}
 use Rattle.tc_top.proofs.SchemaTextLaws.{no_schema, one_schema, text_refusals}
 
 -- the first limit that a schema passes is one
-
-pub over_validity : {g : Grammar} {kind : Limit} {number : ℕ} → PassesValidity g kind number → IsValidityWithin g → ⊥
-over_validity (passes_schema p) w = over p w.schema
-over_validity (passes_symbols v p) w = omega (arith, p, w.symbols)
 
 pub one_validity_limit : {g : Grammar} {kind other : Limit} {number count : ℕ} → PassesValidity g kind number → PassesValidity g other count → AreAlike (over_limit kind number) (over_limit other count)
 one_validity_limit (passes_schema p) (passes_schema q) = one_limit p q
@@ -36,17 +34,8 @@ one_validity_limit (passes_symbols v p) (passes_symbols w q) = same_answer
 
 -- a text is good, or it is refused, or one measure passes in it
 
-pub no_tree : {bytes : List ℕ} {h : RawTrees} (reason : Reason) (place : ℕ) → IsRefusedInPieces bytes reason place → XmlText bytes h → ⊥
-no_tree reason place r x = no_xml reason place r.0 x
-
 pub refused_within : {bytes : List ℕ} (reason : Reason) (place : ℕ) → IsRefusedInPieces bytes reason place → IsWithinMeasures bytes
 refused_within reason place r = r.1
-
-pub good_within : {bytes : List ℕ} {h : RawTrees} → IsGood bytes h → IsWithinMeasures bytes
-good_within {bytes} {h} good = good_texts_pass_nothing bytes h good
-
-pub passes_within : {bytes : List ℕ} {measure : Measure} {place : ℕ} → PassesFirst bytes measure place → IsWithinMeasures bytes → ⊥
-passes_within {measure = m} {place = p} x within = within x.front m p x.is_front x.passes
 
 pub one_measure : {bytes : List ℕ} {p q : ℕ} → PassesFirst bytes tag p → PassesFirst bytes names q → ⊥
 one_measure {bytes} {p} {q} x y = let e : passed tag p ≡ passed names q = comes_once bytes (passed tag p) (passed names q) x y in absurd (cc)
@@ -65,36 +54,36 @@ refusals bytes name r q k m x y = document_refusals bytes name {r = r} {q = q} {
 module _ {g : Grammar} {name bytes : List ℕ} where
   decides_one : {one other : Answer} → DecidesInPieces g name bytes one → DecidesInPieces g name bytes other → AreAlike one other
   decides_one (schema_limited p1) (schema_limited p2) = one_validity_limit p1 p2
-  decides_one (schema_limited p1) (text_refused {reason = r2} {place = k2} w2 x2) = absurd (over_validity p1 w2)
-  decides_one (schema_limited p1) (tag_passed w2 t2) = absurd (over_validity p1 w2)
-  decides_one (schema_limited p1) (names_passed w2 n2) = absurd (over_validity p1 w2)
-  decides_one (schema_limited p1) (document_valid w2 g2 v2) = absurd (over_validity p1 w2)
-  decides_one (schema_limited p1) (document_invalid w2 g2 i2) = absurd (over_validity p1 w2)
-  decides_one (text_refused {reason = r1} {place = k1} w1 x1) (schema_limited p2) = absurd (over_validity p2 w1)
+  decides_one (schema_limited p1) (text_refused {reason = r2} {place = k2} w2 x2) = absurd (not_within p1 w2)
+  decides_one (schema_limited p1) (tag_passed w2 t2) = absurd (not_within p1 w2)
+  decides_one (schema_limited p1) (names_passed w2 n2) = absurd (not_within p1 w2)
+  decides_one (schema_limited p1) (document_valid w2 g2 v2) = absurd (not_within p1 w2)
+  decides_one (schema_limited p1) (document_invalid w2 g2 i2) = absurd (not_within p1 w2)
+  decides_one (text_refused {reason = r1} {place = k1} w1 x1) (schema_limited p2) = absurd (not_within p2 w1)
   decides_one (text_refused {reason = r1} {place = k1} w1 x1) (text_refused {reason = r2} {place = k2} w2 x2) = refusals bytes name r1 r2 k1 k2 x1 x2
   decides_one (text_refused {reason = r1} {place = k1} w1 x1) (tag_passed w2 t2) = absurd (passes_within t2 (refused_within r1 k1 x1))
   decides_one (text_refused {reason = r1} {place = k1} w1 x1) (names_passed w2 n2) = absurd (passes_within n2 (refused_within r1 k1 x1))
   decides_one (text_refused {reason = r1} {place = k1} w1 x1) (document_valid w2 g2 v2) = absurd (no_tree r1 k1 x1 g2.reads)
   decides_one (text_refused {reason = r1} {place = k1} w1 x1) (document_invalid w2 g2 i2) = absurd (no_tree r1 k1 x1 g2.reads)
-  decides_one (tag_passed w1 t1) (schema_limited p2) = absurd (over_validity p2 w1)
+  decides_one (tag_passed w1 t1) (schema_limited p2) = absurd (not_within p2 w1)
   decides_one (tag_passed w1 t1) (text_refused {reason = r2} {place = k2} w2 x2) = absurd (passes_within t1 (refused_within r2 k2 x2))
   decides_one (tag_passed w1 t1) (tag_passed w2 t2) = same_answer
   decides_one (tag_passed w1 t1) (names_passed w2 n2) = absurd (one_measure t1 n2)
   decides_one (tag_passed w1 t1) (document_valid w2 g2 v2) = absurd (passes_within t1 (good_within g2))
   decides_one (tag_passed w1 t1) (document_invalid w2 g2 i2) = absurd (passes_within t1 (good_within g2))
-  decides_one (names_passed w1 n1) (schema_limited p2) = absurd (over_validity p2 w1)
+  decides_one (names_passed w1 n1) (schema_limited p2) = absurd (not_within p2 w1)
   decides_one (names_passed w1 n1) (text_refused {reason = r2} {place = k2} w2 x2) = absurd (passes_within n1 (refused_within r2 k2 x2))
   decides_one (names_passed w1 n1) (tag_passed w2 t2) = absurd (one_measure t2 n1)
   decides_one (names_passed w1 n1) (names_passed w2 n2) = same_answer
   decides_one (names_passed w1 n1) (document_valid w2 g2 v2) = absurd (passes_within n1 (good_within g2))
   decides_one (names_passed w1 n1) (document_invalid w2 g2 i2) = absurd (passes_within n1 (good_within g2))
-  decides_one (document_valid w1 g1 v1) (schema_limited p2) = absurd (over_validity p2 w1)
+  decides_one (document_valid w1 g1 v1) (schema_limited p2) = absurd (not_within p2 w1)
   decides_one (document_valid w1 g1 v1) (text_refused {reason = r2} {place = k2} w2 x2) = absurd (no_tree r2 k2 x2 g1.reads)
   decides_one (document_valid w1 g1 v1) (tag_passed w2 t2) = absurd (passes_within t2 (good_within g1))
   decides_one (document_valid w1 g1 v1) (names_passed w2 n2) = absurd (passes_within n2 (good_within g1))
   decides_one (document_valid w1 g1 v1) (document_valid w2 g2 v2) = same_answer
   decides_one (document_valid w1 g1 v1) (document_invalid w2 g2 i2) = absurd (not_valid_at g1 g2 v1 i2)
-  decides_one (document_invalid w1 g1 i1) (schema_limited p2) = absurd (over_validity p2 w1)
+  decides_one (document_invalid w1 g1 i1) (schema_limited p2) = absurd (not_within p2 w1)
   decides_one (document_invalid w1 g1 i1) (text_refused {reason = r2} {place = k2} w2 x2) = absurd (no_tree r2 k2 x2 g1.reads)
   decides_one (document_invalid w1 g1 i1) (tag_passed w2 t2) = absurd (passes_within t2 (good_within g1))
   decides_one (document_invalid w1 g1 i1) (names_passed w2 n2) = absurd (passes_within n2 (good_within g1))

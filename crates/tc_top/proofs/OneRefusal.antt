@@ -27,8 +27,8 @@ use Rattle.tc_top.specs.OneAnswer.{IsOpen, AreAlike, same_answer, open_reasons, 
 use Rattle.tc_read.specs.Refusals.{SpellsFault, IsRefusedSchema, IsRefusedDocument, SpellsTree, IsRefusedSheet}
 use Rattle.tc_read.specs.declared.faults.Reason.{Reason}
 use Rattle.tc_read.specs.declared.faults.Reason.TheVariants.{Malformed, Unsupported, TooDeep, Undefined, Twice, Loop, BadStart, BadExcept, CallLoop}
-use Rattle.tc_model.proofs.XmlTextRefused.{one_refusal}
 use Rattle.tc_read.proofs.OtherEntities.{with_others}
+use Rattle.tc_model.proofs.XmlTextRefused.{one_refusal}
 
 -- schemas
 
@@ -127,7 +127,7 @@ one_construct bytes r q k m x y = same_coming (comes bytes r k x) (comes bytes q
 abbrev IsWritten : List ℕ → RawTrees → List Template → Type 0
 IsWritten bytes raw templates = XmlText bytes raw × IsStylesheet raw templates
 
-pub no_xml : {bytes : List ℕ} {raw : RawTrees} (reason : Reason) (place : ℕ) → IsRefusedDocument bytes reason place → XmlText bytes raw → ⊥
+no_xml : {bytes : List ℕ} {raw : RawTrees} (reason : Reason) (place : ℕ) → IsRefusedDocument bytes reason place → XmlText bytes raw → ⊥
 no_xml {raw = raw} Malformed place h x = h.1 _ raw (with_others x)
 no_xml {raw = raw} (Unsupported why) place h x = h.1 _ raw x
 no_xml {raw = raw} TooDeep place h x = h.1 raw (with_others x)

@@ -9,7 +9,7 @@ use Rattle.tc_model.specs.Symbols.{Mention}
 use Rattle.tc_model.specs.Trees.{Trees}
 use Rattle.tc_model.proofs.SheetTextUnique as faults
 use Rattle.tc_print.specs.ReadBack.{IsReadAs}
-use Rattle.tc_run.specs.Spent.{most_work, most_open}
+use Rattle.tc_base.specs.declared.limits.TheConstants.{MOST_WORK, MOST_OPEN}
 use Rattle.tc_read.specs.Sheets.{IsSheetOf}
 use Rattle.tc_decide.specs.Limits.{symbols_of_sheet, IsRunWithin, SheetPasses, sheet_symbols, sheet_predicates, sheet_ancestors, sheet_selects}
 use Rattle.tc_answer.specs.Answers.{Answer, over_limit, has_result}
@@ -83,8 +83,8 @@ runs_of x d (sheet_and_source y e i) = runs_same (one_sheet_of y x) (one_documen
 pub not_within : (s : Sheet) (d : Trees) (kind : Limit) (number : ℕ) → SheetPasses (symbols_of_sheet s) s kind number → IsRunWithin s d → ⊥
 not_within s d kind number p w = over_sheet p w.sheet
 
-pub not_few : (s : Sheet) (d : Trees) (o : Outcome) → Transforms s d o → most_work < o.work → IsRunWithin s d → ⊥
+pub not_few : (s : Sheet) (d : Trees) (o : Outcome) → Transforms s d o → MOST_WORK < o.work → IsRunWithin s d → ⊥
 not_few s d o t p w = over_work s d o t p w.keeps
 
-pub not_low : (s : Sheet) (d : Trees) (o : Outcome) → Transforms s d o → most_open < o.nesting → IsRunWithin s d → ⊥
+pub not_low : (s : Sheet) (d : Trees) (o : Outcome) → Transforms s d o → MOST_OPEN < o.nesting → IsRunWithin s d → ⊥
 not_low s d o t p w = over_open s d o t p w.keeps

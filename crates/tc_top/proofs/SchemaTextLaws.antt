@@ -1,35 +1,25 @@
--- What texts of schemas mean is one grammar, a well-formed one, and none where they are refused.
+-- What texts of schemas mean is one grammar, and none where they are refused.
 use Rattle.std.proofs.Common.{◌≡◌, ◌≤◌, inl, inr, ◌∙◌, ℕ, List, length, Some, None, refl, sym, ap, subst}
 use Rattle.tc_base.specs.Reading.{longest_text}
 use Rattle.tc_dtd.specs.DtdTextLaws.{IsMalformed}
 use Rattle.tc_dtd.specs.declared.faults.DtdFault.{DtdFault}
 use Rattle.tc_dtd.specs.declared.faults.DtdFault.TheVariants as dtd
 use Rattle.tc_dtd.proofs.OneFault.{one_fault}
-use Rattle.tc_model.specs.Grammars.{Grammar, IsGrammar}
+use Rattle.tc_model.specs.Grammars.{Grammar}
 use Rattle.tc_model.specs.RncText.{RncText}
-use Rattle.tc_model.specs.SimplifiesLaws.{IsStart}
-use Rattle.tc_model.specs.Views as see
-use Rattle.tc_model.specs.Views.{place}
 use Rattle.tc_read.specs.Refusals.{IsRefusedSchema}
-use Rattle.tc_model.proofs.SimplifiesLawful.{lawful_grammar}
-use Rattle.tc_model.proofs.SimplifiesUnique.{lawful_start, one_rnc_text}
-use Rattle.tc_read.specs.Faults.{IsUnaccepted}
+use Rattle.tc_model.proofs.SimplifiesUnique.{one_rnc_text}
 use Rattle.tc_read.specs.declared.faults.Reason.{Reason}
-use Rattle.tc_read.specs.declared.faults.TextFault.{TextFault}
-use Rattle.tc_read.specs.declared.faults.TextFault.TheVariants.{Refused, NoMemory}
 use Rattle.tc_read.specs.declared.faults.Reason.TheVariants.{Malformed, Unsupported, TooDeep, Twice}
-use Rattle.tc_read.specs.declared.schemas.Schema.{Schema}
-use Rattle.tc_read.specs.declared.schemas.Schema.TheVariants.{Small, TooLarge}
 use Rattle.tc_read.proofs.SchemaReasons as rnc
 use Rattle.tc_answer.specs.Answers.{refused}
 use Rattle.tc_answer.specs.SchemaWords.{root_of}
 use Rattle.tc_top.specs.OneAnswer.{AreAlike, same_answer, open_reasons, IsPlaced, HasOneReasonOfDtd}
-use Rattle.tc_decide.specs.MachinesSeen.{IsReadOf, IsLawful}
-use Rattle.tc_decide.specs.Texts.{DeclaresGrammar, IsRefusedDtd, Spells, IsRefused, IsShort, IsSchemaOf}
+use Rattle.tc_decide.specs.Texts.{DeclaresGrammar, IsRefusedDtd, Spells, IsRefused, IsShort}
 use Rattle.tc_decide.specs.declared.schemas.SchemaText.{SchemaText as Text}
 use Rattle.tc_decide.specs.declared.schemas.SchemaText.TheVariants.{Compact, Declarations}
-use Rattle.tc_decide.proofs.SchemaTexts.{IsOfFault, reason_by, place_by, of_fault, one_declared, no_declared, lawful_declared, read_of as schema_of}
-use Rattle.tc_top.specs.SchemaTexts.{SchemaText, compact, declares, IsRefusedText, refuses_compact, refuses_declarations, IsSchemaOfText, IsTextOf}
+use Rattle.tc_decide.proofs.SchemaTexts.{IsOfFault, reason_by, place_by, of_fault, one_declared, no_declared}
+use Rattle.tc_top.specs.SchemaTexts.{SchemaText, compact, declares, IsRefusedText, refuses_compact, refuses_declarations, IsTextOf}
 use Rattle.tc_top.proofs.OneRefusal.{schema_refusals}
 
 -- a word has a root or none, and one
@@ -92,37 +82,17 @@ text_refusals {word = w} name (refuses_compact e x) (refuses_declarations {root 
 text_refusals {word = w} name (refuses_declarations {root = r} e x) (refuses_compact f y) = absurd (no_root w r f e)
 text_refusals {bytes = bytes} name (refuses_declarations e x) (refuses_declarations f y) = dtd_refusals bytes name x y
 
-pub lawful_schema : {word bytes : List ℕ} {g : Grammar} → SchemaText word bytes g → IsGrammar g × IsStart g.start
-lawful_schema {bytes = bytes} {g = g} (compact e a) = (lawful_grammar bytes g a, lawful_start a.0 g a.2)
-lawful_schema (declares e a) = lawful_declared a
-
--- the grammar that a text spells is that of its schema, which is lawful
-
-pub read_of : (word bytes : List ℕ) (x : Schema) → IsSchemaOfText word bytes x → (g : Grammar) × SchemaText word bytes g × IsReadOf g x
-read_of word bytes x h = schema_of (SchemaText word bytes) x h
-
-pub lawful_read : (word bytes : List ℕ) (x : Schema) → IsSchemaOfText word bytes x → IsLawful x
-lawful_read word bytes x h = let (g, spells, read) = read_of word bytes x h in let (grammar, start) = lawful_schema spells in (g, read, grammar, start)
-
 -- the text of an operand is that behind its word
 
 pub spelled_as_text : (word bytes : List ℕ) (text : Text) → IsTextOf word bytes text → (g : Grammar) → Spells text g → SchemaText word bytes g
 spelled_as_text word bytes (Compact text) is g h = compact is.0 (subst (λ w. RncText w g) is.1 h)
 spelled_as_text word bytes (Declarations root text) is g h = declares is.0 (subst (λ w. DeclaresGrammar root.now w g) is.1 h)
 
-pub read_as_text : (word bytes : List ℕ) (text : Text) → IsTextOf word bytes text → (x : Schema) → IsSchemaOf text x → IsSchemaOfText word bytes x
-read_as_text word bytes text is (Small x) h = (spelled_as_text word bytes text is (see.grammar x) h.0, h.1)
-read_as_text word bytes text is (TooLarge kind number) h = (h.0, spelled_as_text word bytes text is h.0 h.1, h.2)
-
 -- and so is why there is none
 
 pub refused_as_text : (word bytes : List ℕ) (text : Text) → IsTextOf word bytes text → (reason : Reason) (place : ℕ) → IsRefused text reason place → IsRefusedText word bytes reason place
 refused_as_text word bytes (Compact text) is reason place h = refuses_compact is.0 (subst (λ w. IsRefusedSchema w reason place) is.1 h)
 refused_as_text word bytes (Declarations root text) is reason place h = refuses_declarations is.0 (subst (λ w. IsRefusedDtd w reason place) is.1 h)
-
-pub unaccepted_as_text : (word bytes : List ℕ) (text : Text) → IsTextOf word bytes text → (e : TextFault) → IsUnaccepted (IsRefused text) e → IsUnaccepted (IsRefusedText word bytes) e
-unaccepted_as_text word bytes text is (Refused why p) h = refused_as_text word bytes text is why (place p) h
-unaccepted_as_text word bytes text is NoMemory h = tt
 
 -- it is as long
 pub short_text : (word bytes : List ℕ) (text : Text) → IsTextOf word bytes text → length bytes ≤ longest_text → IsShort text

@@ -224,13 +224,13 @@ module _ {words : List (List ℕ)} {reads : List Read} (files : Files) (i : Gram
       → WritesSpots old new s (IsShownSo i s)
   dead_shown rose c so right is written told = weaker {P = IsUse i s} {Q = IsShownSo i s} (shown_so i s) (told_of_files rose c so right is written told)
 
-  pub dead_decided : {rose : Type 0} → AsksShortFiles words files i s → AreTrue (Some files) rose reads → IsAnswer words reads answer → status ≡ status_of answer → Appended old new (text_of answer)
-      → IsCutShort status rose ⊎ DecidesSpots i s status old new
-  dead_decided {rose} short so right is written = by (read_all rose files _ c.words_are (files_of c) (is_short short.input_short (is_short short.sheet_short none_long)) so right)
+  pub dead_decided : {rose wrote : Type 0} → AsksShortFiles words files i s → AreTrue (Some files) rose reads → IsAnswer words reads answer → status ≡ status_of answer → Appended old new (text_of answer)
+      → IsCutShort status rose wrote ⊎ DecidesSpots i s status old new
+  dead_decided {rose} {wrote} short so right is written = by (read_all rose files _ c.words_are (files_of c) (is_short short.input_short (is_short short.sheet_short none_long)) so right)
     where
       c : AsksFiles words files i s
       c = short.asks
 
-      by : IsOfFault rose answer ⊎ IsAnswerTo (dead c.input c.sheet) (c.input_text ∷ c.sheet_text ∷ []) answer → IsCutShort status rose ⊎ DecidesSpots i s status old new
+      by : IsOfFault rose answer ⊎ IsAnswerTo (dead c.input c.sheet) (c.input_text ∷ c.sheet_text ∷ []) answer → IsCutShort status rose wrote ⊎ DecidesSpots i s status old new
       by (inl fault) = inl (cut_short status answer is fault)
       by (inr x) = inr (decides i s status old new is written (found_of c.input_spells c.sheet_spells (tells_of x)))

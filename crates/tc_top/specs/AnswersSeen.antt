@@ -4,9 +4,6 @@ use Rattle.tc_answer.specs.Answers as a
 use Rattle.tc_answer.specs.AnswersSeen.{Says}
 use Rattle.tc_answer.specs.declared.answer.Answer.{Answer}
 use Rattle.tc_io.specs.Store.{Read}
-use Rattle.tc_model.specs.Views.{place}
-use Rattle.tc_read.specs.declared.faults.TextFault.{TextFault}
-use Rattle.tc_read.specs.declared.faults.TextFault.TheVariants.{Refused, NoMemory}
 use Rattle.tc_top.specs.Answers.{IsAnswer}
 
 -- an answer that is right for the words and for what was read, by its cause
@@ -16,8 +13,3 @@ IsRight words reads said = (answer : a.Answer) × Says said answer × IsAnswer w
 -- the same for some reads that happened
 abbrev pub IsRightFor : List (List ℕ) → (List Read → Type 0) → Answer → Type 0
 IsRightFor words happened said = (reads : List Read) × happened reads × IsRight words reads said
-
--- it says that the text of an operand of this name is refused, for the reason and at the place that the fault tells
-abbrev pub SaysRefused : List ℕ → TextFault → Answer → Type 0
-SaysRefused name (Refused reason at) said = Says said (a.refused name reason (place at))
-SaysRefused name NoMemory said = ⊥

@@ -12,7 +12,7 @@ use Rattle.tc_model.specs.Symbols.{symbol_count}
 use Rattle.tc_model.specs.Outcomes.{Outcome}
 use Rattle.tc_model.specs.Validity.{IsValid}
 use Rattle.tc_print.specs.ReadBack.{IsReadAs}
-use Rattle.tc_run.specs.Spent.{most_work, most_open}
+use Rattle.tc_base.specs.declared.limits.TheConstants.{MOST_WORK, MOST_OPEN}
 use Rattle.tc_read.specs.Sheets.{IsSheetOf}
 use Rattle.tc_run.specs.Limits.{KeepsLimits}
 use Rattle.tc_decide.specs.RowCounts.{RowCount}
@@ -67,8 +67,8 @@ pub data Validates (schema document schema_text document_text : List ℕ) : Answ
 -- what a stylesheet and a document give
 pub data Runs (s : Sheet) (d : Trees) : Answer → Type 0 where
   sheet_passes : {kind : kinds.Limit} {number : ℕ} → SheetPasses (symbols_of_sheet s) s kind number → Runs s d (over_limit kind number)
-  too_much_work : {o : Outcome} → IsWithinSheetLimits (symbols_of_sheet s) s → Transforms s d o → most_work < o.work → Runs s d work_limit
-  too_open : {o : Outcome} → IsWithinSheetLimits (symbols_of_sheet s) s → Transforms s d o → most_open < o.nesting → Runs s d open_limit
+  too_much_work : {o : Outcome} → IsWithinSheetLimits (symbols_of_sheet s) s → Transforms s d o → MOST_WORK < o.work → Runs s d work_limit
+  too_open : {o : Outcome} → IsWithinSheetLimits (symbols_of_sheet s) s → Transforms s d o → MOST_OPEN < o.nesting → Runs s d open_limit
   gives_result : {result : Trees} → IsRunWithin s d → IsResultOf s d result → Runs s d (has_result result)
 
 -- what `run` answers on the texts of its operands

@@ -11,14 +11,11 @@ use Rattle.tc_base.specs.declared.Limit as kinds
 use Rattle.tc_io.specs.Sink.{Appended}
 use Rattle.tc_io.specs.Store.{Files, longest_file}
 use Rattle.tc_model.specs.Grammars.{Grammar}
-use Rattle.tc_model.specs.RawTrees.{RawTrees}
-use Rattle.tc_model.specs.Stripped.{stripped}
-use Rattle.tc_model.specs.Trees.{Trees}
 use Rattle.tc_model.specs.Validity.{IsValid}
-use Rattle.tc_model.specs.XmlText.{XmlText}
 use Rattle.tc_read.specs.declared.faults.Reason.{Reason}
-use Rattle.tc_stream.specs.XmlTextMeasures.{Measure, tag, names, IsGood, PassesFirst, IsWithinMeasures}
-use Rattle.tc_top.specs.InPieces.{PassesValidity, IsRefusedInPieces}
+use Rattle.tc_stream.specs.XmlTextMeasures.{Measure, tag, names, PassesFirst}
+use Rattle.tc_decide.specs.Validating.{PassesValidity}
+use Rattle.tc_decide.specs.Pieces.{SpellsGood, IsNoDocumentInPieces, IsRefusedInPieces}
 use Rattle.tc_decide.specs.Limits.{IsValidityWithin}
 use Rattle.tc_top.specs.SchemaTexts.{SchemaText}
 
@@ -33,15 +30,6 @@ pub record ValidatesFilesInPieces (words : List (List ℕ)) (files : Files) (g :
   pub schema_short : length schema_text ≤ longest_file
   pub document_short : length bytes ≤ longest_file
   pub schema_spells : SchemaText schema schema_text g
-
--- the bytes are a good text, and this is so of its document
-abbrev pub SpellsGood : List ℕ → (Trees → Type 0) → Type 0
-SpellsGood bytes P = (h : RawTrees) × IsGood bytes h × P (stripped h)
-
--- the bytes are no document's text, and no measure passes in them
-pub record IsNoDocumentInPieces (bytes : List ℕ) : Type 0 where
-  pub within : IsWithinMeasures bytes
-  pub no_tree : (h : RawTrees) → XmlText bytes h → ⊥
 
 -- a limit is told, which is passed while none is that is tried before it
 pub data IsLimitedInPieces (g : Grammar) (bytes : List ℕ) : Type 0 where

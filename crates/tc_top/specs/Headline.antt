@@ -23,9 +23,9 @@ use Rattle.tc_decide.specs.declared.limits.TheConstants.{MOST_SHOWN_NODES}
 use Rattle.tc_answer.specs.declared.status.Status.{Status}
 use Rattle.tc_answer.specs.declared.status.Status.TheVariants.{Yes, No, Limit, ReadFault, WriteFault, NoMemory}
 
--- the call was cut short: memory was refused, a write failed, or a read failed
-abbrev pub IsCutShort : Status → Type 0 → Type 0
-IsCutShort status rose = (status ≡ NoMemory) ⊎ ((status ≡ WriteFault) ⊎ ((status ≡ ReadFault) × rose))
+-- the call was cut short: memory was refused; or a read failed, or a write, where the count of such faults rose
+abbrev pub IsCutShort : Status → Type 0 → Type 0 → Type 0
+IsCutShort status read wrote = (status ≡ NoMemory) ⊎ (((status ≡ WriteFault) × wrote) ⊎ ((status ≡ ReadFault) × read))
 
 -- the words are a check of held files whose texts spell two schemas and a stylesheet
 pub record ChecksFiles (words : List (List ℕ)) (files : Files) (limit : Option ℕ) (i o : Grammar) (s : Sheet) : Type 0 where

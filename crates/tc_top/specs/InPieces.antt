@@ -1,29 +1,17 @@
 -- What a schema and a document that comes in pieces decide. The limits of the schema come first: nothing is said of a document before they are kept.
-use Rattle.std.specs.Prelude.{◌<◌, ℕ, List}
+use Rattle.std.specs.Prelude.{ℕ, List}
 use Rattle.tc_answer.specs.Answers.{Answer, over_limit, refused, tag_limit, names_limit, is_valid, is_invalid}
 use Rattle.tc_base.specs.declared.Limit.{Limit}
-use Rattle.tc_base.specs.declared.Limit.TheVariants.{Symbols}
-use Rattle.tc_base.specs.declared.limits.TheConstants.{MOST_INPUT_STATES, MOST_SYMBOLS}
 use Rattle.tc_model.specs.Grammars.{Grammar}
 use Rattle.tc_model.specs.RawTrees.{RawTrees}
-use Rattle.tc_model.specs.States.{input}
 use Rattle.tc_model.specs.Stripped.{stripped}
-use Rattle.tc_model.specs.Symbols.{symbol_count}
 use Rattle.tc_model.specs.Validity.{IsValid}
-use Rattle.tc_read.specs.Refusals.{IsRefusedDocument}
 use Rattle.tc_read.specs.declared.faults.Reason.{Reason}
-use Rattle.tc_stream.specs.XmlTextMeasures.{tag, names, IsGood, PassesFirst, IsWithinMeasures}
-use Rattle.tc_decide.specs.Limits.{IsWithinLimits, PassesLimit, IsValidityWithin, symbols_of_schema}
+use Rattle.tc_stream.specs.XmlTextMeasures.{tag, names, IsGood, PassesFirst}
+use Rattle.tc_decide.specs.Limits.{IsValidityWithin}
+use Rattle.tc_decide.specs.Pieces.{IsRefusedInPieces}
+use Rattle.tc_decide.specs.Validating.{PassesValidity}
 use Rattle.tc_top.specs.SchemaTexts.{SchemaText, IsRefusedText}
-
--- the first limit of `valid` that the schema passes, and its number
-pub data PassesValidity (g : Grammar) : Limit → ℕ → Type 0 where
-  passes_schema : {kind : Limit} {number : ℕ} → PassesLimit g input MOST_INPUT_STATES kind number → PassesValidity g kind number
-  passes_symbols : IsWithinLimits g input MOST_INPUT_STATES → MOST_SYMBOLS < symbol_count (symbols_of_schema g) → PassesValidity g Symbols MOST_SYMBOLS
-
--- the bytes are no document's text, for a reason for which whole ones are refused, and no measure passes in them before reading stops
-abbrev pub IsRefusedInPieces : List ℕ → Reason → ℕ → Type 0
-IsRefusedInPieces bytes reason place = IsRefusedDocument bytes reason place × IsWithinMeasures bytes
 
 -- What a schema and the bytes of a document decide, whose operand has this name; into which pieces they are cut makes no difference, but that the place of
 -- a malformed document is left open. Where a measure passes, that comes before anything that stands behind its place.

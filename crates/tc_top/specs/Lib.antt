@@ -7,13 +7,11 @@ pub mod InPieces
 pub mod FilesInPieces
 pub mod DeadSpots
 pub mod DeadFiles
-pub mod PiecesSeen
 pub mod Demo
 pub mod Causes
 pub mod Headline
 pub mod Answers
 pub mod AnswersSeen
-pub mod TextsSeen
 pub mod VerdictsSeen
 pub mod DeadSeen
 pub mod OneAnswer

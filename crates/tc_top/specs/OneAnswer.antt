@@ -56,12 +56,14 @@ pub data AreAlike : Answer → Answer → Type 0 where
   open_reasons : {name : List ℕ} {reason other_reason : Reason} {place other_place : ℕ} → IsOpen reason → IsOpen other_reason
       → AreAlike (refused name reason place) (refused name other_reason other_place)
 
--- an answer that is one with this, and its lines
-pub record GivesOneLike (status : Status) (old new : Option (List ℕ)) (answer : Answer) : Type 0 where
-  pub given : Answer
-  pub alike : AreAlike answer given
-  pub status_is : status ≡ status_of given
-  pub written : Appended old new (text_of given)
+-- this answer is given, with its lines
+pub record Gives (status : Status) (old new : Option (List ℕ)) (answer : Answer) : Type 0 where
+  pub status_is : status ≡ status_of answer
+  pub written : Appended old new (text_of answer)
+
+-- an answer to the words is given that held files have, by its cause
+abbrev pub GivesOn : List (List ℕ) → Files → Status → Option (List ℕ) → Option (List ℕ) → Type 0
+GivesOn words files status old new = (answer : Answer) × IsAnswerOn words files answer × Gives status old new answer
 
 -- words and what was read have one answer
 abbrev pub HasOneAnswer : Type 0

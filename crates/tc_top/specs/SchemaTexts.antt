@@ -2,14 +2,13 @@
 -- with the document's element.
 use Rattle.std.specs.Prelude.{◌≡◌, ℕ, List, Some, None}
 use Rattle.tc_answer.specs.SchemaWords.{root_of}
-use Rattle.tc_decide.specs.Texts.{DeclaresGrammar, IsRefusedDtd, IsReadAsOne}
+use Rattle.tc_decide.specs.Texts.{DeclaresGrammar, IsRefusedDtd}
 use Rattle.tc_decide.specs.declared.schemas.SchemaText.{SchemaText as Text}
 use Rattle.tc_decide.specs.declared.schemas.SchemaText.TheVariants.{Compact, Declarations}
 use Rattle.tc_model.specs.Grammars.{Grammar}
 use Rattle.tc_model.specs.RncText.{RncText}
 use Rattle.tc_read.specs.Refusals.{IsRefusedSchema}
 use Rattle.tc_read.specs.declared.faults.Reason.{Reason}
-use Rattle.tc_read.specs.declared.schemas.Schema.{Schema}
 
 -- the bytes behind a word in a schema's place are those of this grammar
 pub data SchemaText (word bytes : List ℕ) (g : Grammar) : Type 0 where
@@ -20,10 +19,6 @@ pub data SchemaText (word bytes : List ℕ) (g : Grammar) : Type 0 where
 pub data IsRefusedText (word bytes : List ℕ) (reason : Reason) (place : ℕ) : Type 0 where
   refuses_compact : root_of word ≡ None → IsRefusedSchema bytes reason place → IsRefusedText word bytes reason place
   refuses_declarations : {root : List ℕ} → root_of word ≡ Some root → IsRefusedDtd bytes reason place → IsRefusedText word bytes reason place
-
--- what is read of them
-abbrev pub IsSchemaOfText : List ℕ → List ℕ → Schema → Type 0
-IsSchemaOfText word bytes = IsReadAsOne (SchemaText word bytes)
 
 -- the text of an operand, as its word says
 abbrev pub IsTextOf : List ℕ → List ℕ → Text → Type 0

@@ -1,5 +1,5 @@
 -- What contracts see of the answers that verdicts and failures are.
-use Rattle.std.specs.Prelude.{ℕ, List}
+use Rattle.std.specs.Prelude.{Bool, true, false, ℕ, List}
 use Rattle.tc_answer.specs.Answers as a
 use Rattle.tc_answer.specs.AnswersSeen.{Says}
 use Rattle.tc_answer.specs.declared.answer.Answer.{Answer}
@@ -8,7 +8,9 @@ use Rattle.tc_decide.specs.RowCounts.{row_count}
 use Rattle.tc_decide.specs.declared.failure.Failure.{Failure}
 use Rattle.tc_decide.specs.declared.failure.Failure.TheVariants.{Refused, Passes, NoMemory}
 use Rattle.tc_decide.specs.declared.failure.Kind.{Kind}
-use Rattle.tc_decide.specs.declared.failure.Kind.TheVariants.{Texts, Rows, Nodes, Certificate, Work, Open}
+use Rattle.tc_decide.specs.declared.failure.Kind.TheVariants.{Texts, Rows, Nodes, Certificate, Work, Open, Pieces}
+use Rattle.tc_decide.specs.declared.failure.PieceMeasure.{PieceMeasure}
+use Rattle.tc_decide.specs.declared.failure.PieceMeasure.TheVariants.{Tag, Names}
 use Rattle.tc_decide.specs.declared.failure.Which.{Which}
 use Rattle.tc_decide.specs.declared.failure.Which.TheVariants as which
 use Rattle.tc_decide.specs.declared.verdict.Equality.{Equality}
@@ -57,6 +59,14 @@ equality_answer Same = a.equal
 equality_answer (FirstOnly document) = a.first_only (before document none)
 equality_answer (SecondOnly document) = a.second_only (before document none)
 
+abbrev pub validity_answer : Bool → a.Answer
+validity_answer true = a.is_valid
+validity_answer false = a.is_invalid
+
+abbrev pub measure_answer : PieceMeasure → a.Answer
+measure_answer Tag = a.tag_limit
+measure_answer Names = a.names_limit
+
 abbrev pub limit_answer : Kind → ℕ → a.Answer
 limit_answer (Texts kind) number = a.over_limit kind number
 limit_answer (Rows count) number = a.rows_limit (row_count count) number
@@ -64,6 +74,7 @@ limit_answer Nodes number = a.counterexample_limit
 limit_answer Certificate number = a.certificate_limit
 limit_answer Work number = a.work_limit
 limit_answer Open number = a.open_limit
+limit_answer (Pieces measure) number = measure_answer measure
 
 -- the name of that operand; no document is among them
 abbrev pub name_by : List ℕ → List ℕ → List ℕ → Which → List ℕ

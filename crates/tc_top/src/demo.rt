@@ -5,6 +5,7 @@ ghost use Rattle.tc_answer.specs.Answers as a;
 ghost use Rattle.tc_top.specs.Causes.{Checks};
 ghost use Rattle.tc_answer.specs.AnswersSeen.{Says};
 ghost use Rattle.tc_top.specs.Demo.{demo_line, demo_schema, demo_sheet, input_name, output_name, sheet_name};
+ghost use Rattle.tc_answer.specs.declared.limits.TheConstants.{MOST_DEMO};
 ghost use Rattle.tc_decide.specs.declared.limits.TheConstants.{MOST_ROWS};
 
 use crate::check::check_texts;
@@ -20,7 +21,7 @@ const SHEET: &[u8] =
 /// Decides whether the stylesheet that copies all elements is safe from a schema of so many elements to the same.
 pub fn demo(alloc: Global, size: u32) -> Result<Answer, NoMemory>
     requires some { 1 ≤ size }
-    requires few { size ≤ 40 }
+    requires few { size ≤ MOST_DEMO }
     ensures { IfOk result (λ said. (answer : a.Answer) × Says said answer
         × Checks MOST_ROWS input_name output_name sheet_name (demo_schema size)
         (demo_schema size) demo_sheet answer) }
@@ -48,7 +49,7 @@ pub fn demo(alloc: Global, size: u32) -> Result<Answer, NoMemory>
 /// The text of a schema of so many elements.
 fn schema_of(alloc: Global, size: u32) -> Result<Vec<u8>, NoMemory>
     requires some { 1 ≤ size }
-    requires few { size ≤ 40 }
+    requires few { size ≤ MOST_DEMO }
     ensures text { IfOk result (λ text. text.items ≡ demo_schema size) }
     ensures short { IfOk result (λ text. length text.items ≤ longest_text) }
 {
@@ -64,7 +65,7 @@ fn schema_of(alloc: Global, size: u32) -> Result<Vec<u8>, NoMemory>
 /// Puts the definition of one element.
 fn put_line(text: &mut Vec<u8>, size: u32, number: u32) -> Result<(), NoMemory>
     requires some { 1 ≤ size }
-    requires few { size ≤ 40 }
+    requires few { size ≤ MOST_DEMO }
     requires within { number ≤ size }
     ensures { OnOk result (text.new.items ≡ text.old.items ++ demo_line size number) }
 {

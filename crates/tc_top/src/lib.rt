@@ -27,7 +27,7 @@ ghost use Rattle.tc_model.specs.Grammars.{Grammar};
 ghost use Rattle.tc_model.specs.Sheets.{Sheet};
 ghost use Rattle.tc_model.specs.Trees.{Trees};
 ghost use Rattle.tc_answer.specs.Answers as a;
-ghost use Rattle.tc_top.specs.Answers.{Ends, IsAnswerOn, ReadsNothing, KeepsToLimits};
+ghost use Rattle.tc_top.specs.Answers.{Ends, ReadsNothing, KeepsToLimits};
 ghost use Rattle.tc_top.specs.AnswersSeen.{IsRightFor};
 ghost use Rattle.tc_model.specs.Safety.{IsSafe};
 ghost use Rattle.tc_model.specs.RncText.{RncText};
@@ -37,7 +37,7 @@ ghost use Rattle.tc_top.specs.Checking.{most_rows};
 ghost use Rattle.tc_top.specs.Demo.{demo_schema, demo_sheet};
 ghost use Rattle.tc_decide.specs.declared.limits.TheConstants.{MOST_ROWS};
 ghost use Rattle.tc_top.specs.Headline.{IsCutShort, ChecksFiles, ChecksShortFiles, ShowsCounterexample, DecidesSafety, ValidatesFiles, DecidesValidity, RunsFiles, GivesResult};
-ghost use Rattle.tc_top.specs.OneAnswer.{GivesOneLike};
+ghost use Rattle.tc_top.specs.OneAnswer.{Gives, GivesOn};
 ghost use Rattle.tc_top.specs.ComparedFiles.{ComparesFiles, DecidesComparison};
 ghost use Rattle.tc_top.specs.DeadFiles.{AsksFiles, AsksShortFiles, DecidesSpots, IsShownSo, IsTold, IsUnusedSo, WritesSpots};
 ghost use Rattle.tc_top.specs.FilesInPieces.{ValidatesFilesInPieces, DecidesValidityInPieces};
@@ -78,15 +78,17 @@ pub fn typecheck<S: Store, K: Sink>(
     ensures unwritten { result ≡ Status.NoMemory → sink.new ≡ sink.old }
 
     // Words alone decide that they are no command.
-    ensures usage { IsNoCommand words.now → IsCutShort result ⊥
-        ⊎ GivesOneLike result (K.written sink.old) (K.written sink.new) a.usage }
+    ensures usage { IsNoCommand words.now
+        → IsCutShort result ⊥ (Rose (K.faults sink.old) (K.faults sink.new))
+        ⊎ Gives result (K.written sink.old) (K.written sink.new) a.usage }
     ensures unread { ReadsNothing words.now → store.new ≡ store.old }
 
-    // Where the store tells what it holds, each cause has its answer, but for what is left open.
-    ensures exactly { (files : Files) (answer : a.Answer) → S.holds store.old ≡ Some files
-        → IsAnswerOn words.now files answer
+    // Where the store tells what it holds, an answer is given that is right for the files, by its cause: the one answer, but for what is left
+    // open, by `law_of_answers`.
+    ensures exactly { (files : Files) → S.holds store.old ≡ Some files
         → IsCutShort result (Rose (S.faults store.old) (S.faults store.new))
-        ⊎ GivesOneLike result (K.written sink.old) (K.written sink.new) answer }
+        (Rose (K.faults sink.old) (K.faults sink.new))
+        ⊎ GivesOn words.now files result (K.written sink.old) (K.written sink.new) }
 
     // A check of held files that is yes: every document that is valid for the input is transformed to one that is valid for the output.
     ensures safe { (files : Files) (limit : Option ℕ) (i o : Grammar) (s : Sheet)
@@ -104,6 +106,7 @@ pub fn typecheck<S: Store, K: Sink>(
     ensures headline { (files : Files) (limit : Option ℕ) (i o : Grammar) (s : Sheet)
         → S.holds store.old ≡ Some files → ChecksShortFiles words.now files limit i o s
         → IsCutShort result (Rose (S.faults store.old) (S.faults store.new))
+        (Rose (K.faults sink.old) (K.faults sink.new))
         ⊎ DecidesSafety result (K.written sink.old) (K.written sink.new) (most_rows limit) i o s }
 
     // So is a demonstration on the texts that it makes, for which nothing is read.
@@ -115,7 +118,7 @@ pub fn typecheck<S: Store, K: Sink>(
         → result ≡ Status.No → ShowsCounterexample (K.written sink.old) (K.written sink.new) g g s }
     ensures demonstrated { (size : ℕ) (g : Grammar) (s : Sheet) → Words words.now (w.demo size)
         → RncText (demo_schema size) g → IsSheetOf demo_sheet s
-        → IsCutShort result ⊥
+        → IsCutShort result ⊥ (Rose (K.faults sink.old) (K.faults sink.new))
         ⊎ DecidesSafety result (K.written sink.old) (K.written sink.new) MOST_ROWS g g s }
 
     // `prove` of held files decides as a check does, but that where it is yes the text of the one certificate with exactly the rows of
@@ -123,6 +126,7 @@ pub fn typecheck<S: Store, K: Sink>(
     ensures proved { (files : Files) (limit : Option ℕ) (i o : Grammar) (s : Sheet)
         → S.holds store.old ≡ Some files → ProvesFiles words.now files limit i o s
         → IsCutShort result (Rose (S.faults store.old) (S.faults store.new))
+        (Rose (K.faults sink.old) (K.faults sink.new))
         ⊎ DecidesProof i o s result (K.written sink.old) (K.written sink.new) (most_rows limit) }
 
     // `verify` of held files that is yes: every document that is valid for the input is transformed to one that is valid for the output.
@@ -135,18 +139,21 @@ pub fn typecheck<S: Store, K: Sink>(
     ensures verified { (files : Files) (i o : Grammar) (s : Sheet) (bytes : List ℕ)
         → S.holds store.old ≡ Some files → VerifiesShortFiles words.now files i o s bytes
         → IsCutShort result (Rose (S.faults store.old) (S.faults store.new))
+        (Rose (K.faults sink.old) (K.faults sink.new))
         ⊎ DecidesCertificate i o s result (K.written sink.old) (K.written sink.new) bytes }
 
     // `upgrade` of a held file is yes exactly where its bytes are a certificate's text, with the text of its data by changes.
     ensures upgraded { (files : Files) (bytes : List ℕ) → S.holds store.old ≡ Some files
         → UpgradesFiles words.now files bytes
         → IsCutShort result (Rose (S.faults store.old) (S.faults store.new))
+        (Rose (K.faults sink.old) (K.faults sink.new))
         ⊎ DecidesUpgrade result (K.written sink.old) (K.written sink.new) bytes }
 
     // A validation of held files is yes exactly where the document is valid, and no exactly where it isn't.
     ensures validity { (files : Files) (g : Grammar) (d : Trees) → S.holds store.old ≡ Some files
         → ValidatesFiles words.now files g d
         → IsCutShort result (Rose (S.faults store.old) (S.faults store.new))
+        (Rose (K.faults sink.old) (K.faults sink.new))
         ⊎ DecidesValidity result (K.written sink.old) (K.written sink.new) g d }
 
     // A validation of a held file in pieces, of whatever size, is yes or no exactly where the schema keeps to its limits and the file's bytes are a text of
@@ -156,6 +163,7 @@ pub fn typecheck<S: Store, K: Sink>(
         → S.holds store.old ≡ Some files
         → ValidatesFilesInPieces words.now files g name bytes
         → IsCutShort result (Rose (S.faults store.old) (S.faults store.new))
+        (Rose (K.faults sink.old) (K.faults sink.new))
         ⊎ DecidesValidityInPieces result (K.written sink.old) (K.written sink.new) g name bytes }
 
     // A run of a held stylesheet on a held document that is yes writes the document's result.
@@ -167,6 +175,7 @@ pub fn typecheck<S: Store, K: Sink>(
     ensures limited { (files : Files) (s : Sheet) (d : Trees) → S.holds store.old ≡ Some files
         → RunsFiles words.now files s d
         → IsCutShort result (Rose (S.faults store.old) (S.faults store.new))
+        (Rose (K.faults sink.old) (K.faults sink.new))
         ⊎ KeepsToLimits result (K.written sink.old) (K.written sink.new) s d }
 
     // `include` of held files is yes exactly where each document that is valid for the first schema is valid for the second, with the
@@ -175,10 +184,12 @@ pub fn typecheck<S: Store, K: Sink>(
     ensures inclusion { (files : Files) (g h : Grammar) → S.holds store.old ≡ Some files
         → ComparesFiles words.now files inclusion g h
         → IsCutShort result (Rose (S.faults store.old) (S.faults store.new))
+        (Rose (K.faults sink.old) (K.faults sink.new))
         ⊎ DecidesComparison g h result (K.written sink.old) (K.written sink.new) inclusion }
     ensures equality { (files : Files) (g h : Grammar) → S.holds store.old ≡ Some files
         → ComparesFiles words.now files equality g h
         → IsCutShort result (Rose (S.faults store.old) (S.faults store.new))
+        (Rose (K.faults sink.old) (K.faults sink.new))
         ⊎ DecidesComparison g h result (K.written sink.old) (K.written sink.new) equality }
 
     // `dead` of held files: each spot of the stylesheet that is told to be dead is instantiated by no document that is valid for the schema;
@@ -195,6 +206,7 @@ pub fn typecheck<S: Store, K: Sink>(
     ensures spots_told { (files : Files) (i : Grammar) (s : Sheet) → S.holds store.old ≡ Some files
         → AsksShortFiles words.now files i s
         → IsCutShort result (Rose (S.faults store.old) (S.faults store.new))
+        (Rose (K.faults sink.old) (K.faults sink.new))
         ⊎ DecidesSpots i s result (K.written sink.old) (K.written sink.new) }
 
     // What is held stays as it is, and no count of faults falls.

@@ -1,15 +1,14 @@
-// What is answered where an operand was not read, or its text not accepted.
+// What is answered where an operand was not read.
 ghost use Rattle.std.specs.Prelude.{ℕ, List, IfOk};
 ghost use Rattle.tc_answer.specs.AnswersSeen.{IsFirstUnread};
 ghost use Rattle.tc_answer.specs.Words as w;
 ghost use Rattle.tc_answer.specs.Words.{Words, operands_of};
 ghost use Rattle.tc_io.specs.Store.{Read};
-ghost use Rattle.tc_top.specs.AnswersSeen.{IsRight, SaysRefused};
+ghost use Rattle.tc_top.specs.AnswersSeen.{IsRight};
 
 use std::alloc::Global;
 use tc_answer::{Answer, Unread};
 use tc_base::NoMemory;
-use tc_read::TextFault;
 
 /// What is answered where an operand was not read.
 pub fn answer_unread(alloc: Global, unread: Unread<'_>) -> Result<Answer, NoMemory>
@@ -22,15 +21,5 @@ pub fn answer_unread(alloc: Global, unread: Unread<'_>) -> Result<Answer, NoMemo
         Unread::Unreadable(name) => Answer::cannot_read(alloc, name),
         Unread::TooLong => Answer::file_limit(alloc),
         Unread::NoMemory => Err(NoMemory),
-    }
-}
-
-/// What is answered where the text of an operand of this name was not accepted.
-pub fn answer_unaccepted(alloc: Global, name: &str, fault: TextFault) -> Result<Answer, NoMemory>
-    ensures { IfOk result (SaysRefused name.now fault) }
-{
-    match fault {
-        TextFault::Refused(reason, place) => Answer::refused(alloc, name, reason, place),
-        TextFault::NoMemory => Err(NoMemory),
     }
 }

@@ -3,14 +3,14 @@ ghost use Rattle.std.specs.Prelude.{◌≡◌, IfOk};
 ghost use Rattle.tc_answer.specs.AnswersSeen.{Says};
 ghost use Rattle.tc_model.specs.Trees.{none};
 ghost use Rattle.tc_model.specs.Views as see;
-ghost use Rattle.tc_top.specs.VerdictsSeen.{SaysFailure, SaysFailureBy, equality_answer, inclusion_answer, limit_answer, name_by, name_of_two, proof_answer, unsafe_answer, upgrade_answer, verdict_answer, verification_answer};
+ghost use Rattle.tc_top.specs.VerdictsSeen.{SaysFailure, SaysFailureBy, equality_answer, inclusion_answer, limit_answer, measure_answer, name_by, name_of_two, proof_answer, unsafe_answer, upgrade_answer, validity_answer, verdict_answer, verification_answer};
 
 use std::alloc::Global;
 use tc_answer::{Answer, Operands};
 use tc_base::NoMemory;
 use tc_decide::{
-    Equality, Failure, Inclusion, Kind, Output, Proof, Rejection, Upgrade, Verdict, Verification,
-    Which,
+    Equality, Failure, Inclusion, Kind, Output, PieceMeasure, Proof, Rejection, Upgrade, Verdict,
+    Verification, Which,
 };
 use tc_model::Node;
 
@@ -75,6 +75,17 @@ pub fn answer_equality(alloc: Global, equality: Equality<'_>) -> Result<Answer, 
         Equality::Same => Ok(Answer::equal()),
         Equality::FirstOnly(document) => Answer::first_only(alloc, &[document]),
         Equality::SecondOnly(document) => Answer::second_only(alloc, &[document]),
+    }
+}
+
+/// The answer that a document is valid, or isn't.
+pub fn answer_validity(is_valid: bool) -> Answer
+    ensures { Says result (validity_answer is_valid) }
+{
+    if is_valid {
+        Answer::valid()
+    } else {
+        Answer::invalid()
     }
 }
 
@@ -151,6 +162,17 @@ pub fn answer_limit(alloc: Global, kind: Kind, number: u32) -> Result<Answer, No
         Kind::Certificate => Answer::certificate_limit(alloc),
         Kind::Work => Answer::work_limit(alloc),
         Kind::Open => Answer::open_limit(alloc),
+        Kind::Pieces(measure) => answer_measure(alloc, measure),
+    }
+}
+
+/// The answer that a measure of a document in pieces passes its limit.
+fn answer_measure(alloc: Global, measure: PieceMeasure) -> Result<Answer, NoMemory>
+    ensures { IfOk result (λ said. Says said (measure_answer measure)) }
+{
+    match measure {
+        PieceMeasure::Tag => Answer::tag_limit(alloc),
+        PieceMeasure::Names => Answer::names_limit(alloc),
     }
 }
 

@@ -1,13 +1,13 @@
-use Rattle.std.proofs.Common.{◌∙◌, inl, inr, refl, subst}
+use Rattle.std.proofs.Common.{◌∙◌, inr, refl, subst}
 use Rattle.tc_io.specs.Sink.{Appended, WroteFront}
-use Rattle.tc_answer.specs.Answers.{usage}
 use Rattle.tc_top.specs.Answers.{answered, broken_off, out_of_memory}
-use Rattle.tc_top.proofs.Exact.{alike_at, exact, usage_only}
-use Rattle.tc_top.proofs.Headline.{at_words, at_told, gives, headline, safe_is_so, unsafe_is_shown, demo_is_safe, demo_is_shown, demonstrated, validity, running, limited}
+use Rattle.tc_top.proofs.Exact.{usage_only}
+use Rattle.tc_top.proofs.Headline.{at_words, at_told, headline, safe_is_so, unsafe_is_shown, demo_is_safe, demo_is_shown, demonstrated, validity, running, limited}
 use Rattle.tc_top.proofs.CertifiedExact.{proof_of_files, accepted_is_safe, certificate_of_files, upgrade_of_files}
 use Rattle.tc_top.proofs.Comparisons.{includes, equals}
 use Rattle.tc_top.proofs.SpotsExact.{dead_unused, dead_shown, dead_decided}
 use Rattle.tc_top.proofs.CutShort.{by_fault, by_memory, fault_not_no, fault_not_yes, fault_not_told, memory_not_no, memory_not_yes, memory_not_told}
+use Rattle.tc_top.proofs.OnFiles.{on_files, gives_on, gives_usage}
 use Rattle.tc_top.proofs.FilesInPieces.{validity_in_pieces}
 use Rattle.tc_answer.specs.Words.{Words}
 use Rattle.tc_top.proofs.typecheck.Goals as goal
@@ -32,13 +32,13 @@ pub returns-in-Ok-write_lines-clause-usage : goal.returns-in-Ok-write_lines-clau
 returns-in-Ok-write_lines-clause-usage g c = λ none.
     let right = at_words c.as_slice.ensures c.in-Ok.ensures.right in
     let written = subst (Appended (g.K.Sink.written c.args.sink.now) (g.K.Sink.written c.write_lines.new.sink)) (c.as_bytes.ensures ∙ right.2.1.written) c.in-Ok-write_lines.ensures.ok in
-    gives _ _ _ usage right.2.0 right.2.1.status written (inl (alike_at refl (usage_only none right.2.2)))
+    gives_usage _ _ _ right.2.0 right.2.1.status written (usage_only none right.2.2)
 
 pub returns-in-Ok-write_lines-clause-exactly : goal.returns-in-Ok-write_lines-clause-exactly
-returns-in-Ok-write_lines-clause-exactly g c = λ files answer told is.
+returns-in-Ok-write_lines-clause-exactly g c = λ files told.
     let right = at_words c.as_slice.ensures c.in-Ok.ensures.right in
     let written = subst (Appended (g.K.Sink.written c.args.sink.now) (g.K.Sink.written c.write_lines.new.sink)) (c.as_bytes.ensures ∙ right.2.1.written) c.in-Ok-write_lines.ensures.ok in
-    gives _ _ _ answer right.2.0 right.2.1.status written (exact files _ is.1 is.2 (at_told _ right.0 told right.1.true) right.2.2)
+    gives_on _ files _ _ _ right.2.0 right.2.1.status written (on_files files _ (at_told _ right.0 told right.1.true) right.2.2)
 
 pub returns-in-Ok-write_lines-clause-safe : goal.returns-in-Ok-write_lines-clause-safe
 returns-in-Ok-write_lines-clause-safe g c = λ files limit i o s told checks e.
@@ -154,40 +154,40 @@ returns-in-Ok-write_lines-clause-spots_told g c = λ files i s told asks.
 -- ways out on which nothing is written, or not all
 
 pub returns-in-Ok-clause-usage : goal.returns-in-Ok-clause-usage
-returns-in-Ok-clause-usage g c = λ _. by_fault
+returns-in-Ok-clause-usage g c = λ _. by_fault c.in-Err-write_lines.ensures.rose
 
 pub returns-in-Ok-clause-exactly : goal.returns-in-Ok-clause-exactly
-returns-in-Ok-clause-exactly g c = λ _ _ _ _. by_fault
+returns-in-Ok-clause-exactly g c = λ _ _. by_fault c.in-Err-write_lines.ensures.rose
 
 pub returns-in-Ok-clause-headline : goal.returns-in-Ok-clause-headline
-returns-in-Ok-clause-headline g c = λ _ _ _ _ _ _ _. by_fault
+returns-in-Ok-clause-headline g c = λ _ _ _ _ _ _ _. by_fault c.in-Err-write_lines.ensures.rose
 
 pub returns-in-Ok-clause-demonstrated : goal.returns-in-Ok-clause-demonstrated
-returns-in-Ok-clause-demonstrated g c = λ _ _ _ _ _ _. by_fault
+returns-in-Ok-clause-demonstrated g c = λ _ _ _ _ _ _. by_fault c.in-Err-write_lines.ensures.rose
 
 pub returns-in-Ok-clause-proved : goal.returns-in-Ok-clause-proved
-returns-in-Ok-clause-proved g c = λ _ _ _ _ _ _ _. by_fault
+returns-in-Ok-clause-proved g c = λ _ _ _ _ _ _ _. by_fault c.in-Err-write_lines.ensures.rose
 
 pub returns-in-Ok-clause-verified : goal.returns-in-Ok-clause-verified
-returns-in-Ok-clause-verified g c = λ _ _ _ _ _ _ _. by_fault
+returns-in-Ok-clause-verified g c = λ _ _ _ _ _ _ _. by_fault c.in-Err-write_lines.ensures.rose
 
 pub returns-in-Ok-clause-upgraded : goal.returns-in-Ok-clause-upgraded
-returns-in-Ok-clause-upgraded g c = λ _ _ _ _. by_fault
+returns-in-Ok-clause-upgraded g c = λ _ _ _ _. by_fault c.in-Err-write_lines.ensures.rose
 
 pub returns-in-Ok-clause-validity : goal.returns-in-Ok-clause-validity
-returns-in-Ok-clause-validity g c = λ _ _ _ _ _. by_fault
+returns-in-Ok-clause-validity g c = λ _ _ _ _ _. by_fault c.in-Err-write_lines.ensures.rose
 
 pub returns-in-Ok-clause-validity_in_pieces : goal.returns-in-Ok-clause-validity_in_pieces
-returns-in-Ok-clause-validity_in_pieces g c = λ _ _ _ _ _ _. by_fault
+returns-in-Ok-clause-validity_in_pieces g c = λ _ _ _ _ _ _. by_fault c.in-Err-write_lines.ensures.rose
 
 pub returns-in-Ok-clause-limited : goal.returns-in-Ok-clause-limited
-returns-in-Ok-clause-limited g c = λ _ _ _ _ _. by_fault
+returns-in-Ok-clause-limited g c = λ _ _ _ _ _. by_fault c.in-Err-write_lines.ensures.rose
 
 pub returns-in-Ok-clause-inclusion : goal.returns-in-Ok-clause-inclusion
-returns-in-Ok-clause-inclusion g c = λ _ _ _ _ _. by_fault
+returns-in-Ok-clause-inclusion g c = λ _ _ _ _ _. by_fault c.in-Err-write_lines.ensures.rose
 
 pub returns-in-Ok-clause-equality : goal.returns-in-Ok-clause-equality
-returns-in-Ok-clause-equality g c = λ _ _ _ _ _. by_fault
+returns-in-Ok-clause-equality g c = λ _ _ _ _ _. by_fault c.in-Err-write_lines.ensures.rose
 
 pub returns-in-Ok-clause-safe : goal.returns-in-Ok-clause-safe
 returns-in-Ok-clause-safe g c = λ _ _ _ _ _ _ _ e. fault_not_yes e
@@ -208,7 +208,7 @@ pub returns-in-Ok-clause-running : goal.returns-in-Ok-clause-running
 returns-in-Ok-clause-running g c = λ _ _ _ _ _ e. fault_not_yes e
 
 pub returns-in-Ok-clause-spots_told : goal.returns-in-Ok-clause-spots_told
-returns-in-Ok-clause-spots_told g c = λ _ _ _ _ _. by_fault
+returns-in-Ok-clause-spots_told g c = λ _ _ _ _ _. by_fault c.in-Err-write_lines.ensures.rose
 
 pub returns-in-Ok-clause-unused : goal.returns-in-Ok-clause-unused
 returns-in-Ok-clause-unused g c = λ _ _ _ _ _ e. fault_not_told e
@@ -229,7 +229,7 @@ pub returns-clause-usage : goal.returns-clause-usage
 returns-clause-usage g c = λ _. by_memory
 
 pub returns-clause-exactly : goal.returns-clause-exactly
-returns-clause-exactly g c = λ _ _ _ _. by_memory
+returns-clause-exactly g c = λ _ _. by_memory
 
 pub returns-clause-headline : goal.returns-clause-headline
 returns-clause-headline g c = λ _ _ _ _ _ _ _. by_memory

@@ -2,6 +2,7 @@ use Rattle.std.proofs.Common.{◌∷◌, [], ◌∙◌, refl, sym, ap, codes}
 use Rattle.tc_scan.proofs.NamesLaws.{at_none}
 use Rattle.tc_answer.specs.Words.{shows}
 use Rattle.tc_answer.specs.WordsSeen.{texts}
+use Rattle.tc_answer.specs.declared.limits.TheConstants.{MOST_DEMO}
 use Rattle.tc_answer.proofs.Marked.{tails}
 use Rattle.tc_answer.proofs.Named.{texts-only}
 use Rattle.tc_answer.proofs.NoCommand.{lacking}
@@ -18,7 +19,7 @@ pub returns-in_err-size : goal.returns-in_err-size
 returns-in_err-size c =
     let only = texts-only c.args.words.now c.in_ok-numeral.rest.now c.in_ok-numeral.numeral.now c.is_empty.result c.in_ok-numeral.ensures.cases.0 c.is_empty.ensures c.if-not-is_empty.false in
     at_none _ c.from_residual-in_err-size.ensures (lacking 5 refl (λ numeral size p h.
-    no_number (texts c.args.words.now) 40 c.as_str.result.now (only ∙ ap (λ x. x ∷ []) (sym c.as_str.ensures.value)) c.in_err-size.ensures numeral size (tails p) h))
+    no_number (texts c.args.words.now) MOST_DEMO c.as_str.result.now (only ∙ ap (λ x. x ∷ []) (sym c.as_str.ensures.value)) c.in_err-size.ensures numeral size (tails p) h))
 
 pub returns : goal.returns
 returns c =

@@ -1,4 +1,4 @@
-use Rattle.std.proofs.Common.{◌≡◌, ◌+◌, ◌*◌, ◌-◌, ◌∙◌, sym, ap, arith, drop, get_or, refl, ◌&&◌, slice_get}
+use Rattle.std.proofs.Common.{◌≡◌, ◌≤◌, ◌+◌, ◌*◌, ◌-◌, ◌∙◌, sym, ap, arith, drop, get_or, refl, ◌&&◌, slice_get}
 use Rattle.std.specs.Char.{is_ascii_digit}
 use Rattle.std.specs.List.{list_all}
 use Rattle.std.proofs.lemmas.Bool.{true≢false}
@@ -28,7 +28,7 @@ returns-then-not-is_ascii_digit c = λ number spelled.
     true≢false (sym spelled.digits ∙ (ap (list_all is_ascii_digit) (sym c.as_bytes-digits.ensures.value) ∙ some_other))
 
 pub overflow_mul-value : goal.overflow_mul-value
-overflow_mul-value c = omega (arith, c.loop-digit.invariant.small, c.requires)
+overflow_mul-value c = let most : c.args.most ≤ 65536 = c.requires in omega (arith, c.loop-digit.invariant.small, most)
 
 pub loop-digit-preserved : goal.loop-digit-preserved
 loop-digit-preserved c =

@@ -20,7 +20,7 @@ returns-in-Ok c =
     let v = c.in-Ok.verdict in
     let checks =
     by_all o.input.name.now o.output.name.now o.sheet.name.now o.input.text.items o.output.text.items c.deref.result.now _ _ c.schema_text-input.ensures c.schema_text-output.ensures
-    (Finds c.args.most) {answer = verdict_answer v} e.refused (λ i p s x y z. found c.args.most i p s v (of_verdict v (e.headline i p s x y z)) (e.counted i p s x y z)) in
+    (Finds c.args.most) {answer = verdict_answer v} e.refused (λ i p s x y z. let all = e.counted i p s x y z in found c.args.most i p s v (of_verdict v all.limits) all.numbers) in
     IfOk-weaker c.answer_verdict.result _ _ (λ said says. (
       verdict_answer v,
       says,
@@ -34,5 +34,5 @@ returns c =
     IfOk-weaker c.answer_failure.result _ _ (λ said says.
     let told =
     by_failure o.input.name.now o.output.name.now o.sheet.name.now o.input.text.items o.output.text.items c.deref.result.now _ _ c.schema_text-input.ensures c.schema_text-output.ensures
-    (Finds c.args.most) (TellsCounts c.args.most) (limited c.args.most) c.in-Err.failure said e.refused e.counted says in
+    (Finds c.args.most) (TellsCounts c.args.most) (limited c.args.most) c.in-Err.failure said e.refused (λ i p s x y z. (e.counted i p s x y z).numbers) says in
     (told.0, told.1, subst (λ w. Checks c.args.most o.input.name.now o.output.name.now o.sheet.name.now o.input.text.items o.output.text.items w told.0) c.deref.ensures.value told.2)) c.answer_failure.ensures

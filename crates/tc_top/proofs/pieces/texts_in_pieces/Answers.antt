@@ -1,22 +1,28 @@
+use Rattle.std.proofs.Common.{subst}
 use Rattle.std.proofs.lemmas.Result.{IfOk-weaker}
-use Rattle.tc_answer.specs.Answers as a
-use Rattle.tc_top.specs.InPieces.{schema_is_refused, schema_is_read}
-use Rattle.tc_top.specs.SchemaTexts.{IsRefusedText}
-use Rattle.tc_top.proofs.SchemaTextLaws.{read_of, lawful_read}
-use Rattle.tc_top.proofs.Unaccepted.{refused_as}
+use Rattle.tc_top.specs.InPieces.{ValidatesInPieces}
+use Rattle.tc_top.specs.VerdictsSeen.{validity_answer}
+use Rattle.tc_top.proofs.Decided.{of_verdict, pieces_give, pieces_fail}
+use Rattle.tc_top.proofs.SchemaTextLaws.{short_text}
 use Rattle.tc_top.proofs.pieces.texts_in_pieces.Goals as goal
 
-pub schema_in_pieces-requires-clause-schema : goal.schema_in_pieces-requires-clause-schema
-schema_in_pieces-requires-clause-schema c = lawful_read _ _ _ c.in-Ok.ensures.ok
+pub valid_in_pieces-requires-clause-schema : goal.valid_in_pieces-requires-clause-schema
+valid_in_pieces-requires-clause-schema c = let o = c.args.schema.now in short_text o.name.now o.text.items _ c.schema_text.ensures c.requires.schema
 
 pub returns-in-Ok : goal.returns-in-Ok
 returns-in-Ok c =
-    let read = read_of _ _ _ c.in-Ok.ensures.ok in
-    IfOk-weaker c.schema_in_pieces.result _ _ (λ said h. let found = h read.0 read.2 in (found.0, found.1, schema_is_read read.1 found.2)) c.schema_in_pieces.ensures
+    let one = c.args.schema.now in
+    let other = c.args.document.now in
+    let e = c.in-Ok.ensures in
+    let v = c.in-Ok.is_valid in
+    let valid = pieces_give one.name.now other.name.now one.text.items c.deref.result.now _ c.schema_text.ensures v e.refused (λ x d. of_verdict v (e.validity x d)) in
+    (validity_answer v, c.answer_validity.ensures, subst (λ w. ValidatesInPieces one.name.now other.name.now one.text.items w (validity_answer v)) c.deref.ensures.value valid)
 
-pub returns : goal.returns
-returns c =
-    let why = c.in-Err.ensures.no in
-    IfOk-weaker c.answer_unaccepted.result _ _ (λ said says.
-    let found = refused_as said (IsRefusedText c.args.schema.now.name.now c.args.schema.now.text.items) c.args.schema.now.name.now c.in-Err.fault says why in
-    (a.refused c.args.schema.now.name.now found.0 found.1, found.2, schema_is_refused found.3)) c.answer_unaccepted.ensures
+pub returns-in-Err : goal.returns-in-Err
+returns-in-Err c =
+    let one = c.args.schema.now in
+    let other = c.args.document.now in
+    let e = c.in-Err.ensures in
+    IfOk-weaker c.answer_pair_failure.result _ _ (λ said says.
+    let told = pieces_fail one.name.now other.name.now one.text.items c.deref.result.now _ c.schema_text.ensures c.in-Err.failure said e.refused e.counted says in
+    (told.0, told.1, subst (λ w. ValidatesInPieces one.name.now other.name.now one.text.items w told.0) c.deref.ensures.value told.2)) c.answer_pair_failure.ensures

@@ -21,7 +21,7 @@ returns-in-Ok c =
     let v = c.in-Ok.proof in
     let proves =
     by_all o.input.name.now o.output.name.now o.sheet.name.now o.input.text.items o.output.text.items c.deref.result.now _ _ c.schema_text-input.ensures c.schema_text-output.ensures
-    (λ i p s. Certifies i p s c.args.most) {answer = proof_answer v} e.refused (λ i p s x y z. proved c.args.most i p s v (of_verdict v (e.proved i p s x y z))) in
+    (λ i p s. Certifies i p s c.args.most) {answer = proof_answer v} e.refused (λ i p s x y z. proved c.args.most i p s v (of_verdict v (e.counted i p s x y z).limits)) in
     IfOk-weaker c.answer_proof.result _ _ (λ said says. (
       proof_answer v,
       says,
@@ -35,5 +35,5 @@ returns c =
     IfOk-weaker c.answer_failure.result _ _ (λ said says.
     let told =
     by_failure o.input.name.now o.output.name.now o.sheet.name.now o.input.text.items o.output.text.items c.deref.result.now _ _ c.schema_text-input.ensures c.schema_text-output.ensures
-    (λ i p s. Certifies i p s c.args.most) {V = Proof} (λ i p s. TellsLimit i p s c.args.most) (limited_proof c.args.most) c.in-Err.failure said e.refused e.counted says in
+    (λ i p s. Certifies i p s c.args.most) {V = Proof} (λ i p s. TellsLimit i p s c.args.most) (limited_proof c.args.most) c.in-Err.failure said e.refused (λ i p s x y z. (e.counted i p s x y z).number) says in
     (told.0, told.1, subst (λ w. Proves c.args.most o.input.name.now o.output.name.now o.sheet.name.now o.input.text.items o.output.text.items w told.0) c.deref.ensures.value told.2)) c.answer_failure.ensures

@@ -21,3 +21,6 @@ returns-in-Work c = IfOk-weaker c.work_limit.result _ _ (λ said says. subst (λ
 
 pub returns-in-Open : goal.returns-in-Open
 returns-in-Open c = IfOk-weaker c.open_limit.result _ _ (λ said says. subst (λ k. Says said (limit_answer k c.args.number)) (sym c.in-Open.is) says) c.open_limit.ensures
+
+pub returns-in-Pieces : goal.returns-in-Pieces
+returns-in-Pieces c = IfOk-weaker c.answer_measure.result _ _ (λ said says. subst (λ k. Says said (limit_answer k c.args.number)) (sym c.in-Pieces.is) says) c.answer_measure.ensures

@@ -21,7 +21,7 @@ returns-in-Ok c =
     let bytes = c.deref-2.result.now in
     let verifies =
     by_all o.input.name.now o.output.name.now o.sheet.name.now o.input.text.items o.output.text.items c.deref.result.now _ _ c.schema_text-input.ensures c.schema_text-output.ensures
-    (λ i p s. Accepts i p s bytes) {answer = verification_answer v} e.refused (λ i p s x y z. accepted_by bytes i p s v (e.accepted_safe i p s x y z) (of_verdict v (e.verified i p s x y z))) in
+    (λ i p s. Accepts i p s bytes) {answer = verification_answer v} e.refused (λ i p s x y z. accepted_by bytes i p s v (e.declared i p s x y z) (of_verdict v (e.verified i p s x y z))) in
     let there = subst (λ w. Verifies o.input.name.now o.output.name.now o.sheet.name.now o.input.text.items o.output.text.items w bytes (verification_answer v)) c.deref.ensures.value verifies in
     IfOk-weaker c.answer_verification.result _ _ (λ said says. (
       verification_answer v,
