@@ -70,7 +70,10 @@ fn inner_of<'b>(
     input: &Grammar<'b>,
     alphabet: &Alphabet,
 ) -> Result<Hedge<'b>, NoMachine>
-    ensures { IfOk result (λ h. (i o : g.Grammar) (s : sh.Sheet) → alphabet.now ≡ symbols_of i o s → (see.grammar input.now ≡ i) ⊎ (see.grammar input.now ≡ o) → Stands side.input (see.grammar input.now) alphabet.now h) }
+    ensures { IfOk result
+        (λ h. (i o : g.Grammar) (s : sh.Sheet) → alphabet.now ≡ symbols_of i o s
+        → (see.grammar input.now ≡ i) ⊎ (see.grammar input.now ≡ o)
+        → Stands side.input (see.grammar input.now) alphabet.now h) }
 {
     let Ok(contents) = Auto::contents(alloc, input, 512) else {
         return Err(NoMachine::NotRead);
@@ -87,7 +90,10 @@ fn outer_of<'b>(
     output: &Grammar<'b>,
     alphabet: &Alphabet,
 ) -> Result<Hedge<'b>, NoMachine>
-    ensures { IfOk result (λ h. (i o : g.Grammar) (s : sh.Sheet) → alphabet.now ≡ symbols_of i o s → (see.grammar output.now ≡ i) ⊎ (see.grammar output.now ≡ o) → Stands side.output (see.grammar output.now) alphabet.now h) }
+    ensures { IfOk result
+        (λ h. (i o : g.Grammar) (s : sh.Sheet) → alphabet.now ≡ symbols_of i o s
+        → (see.grammar output.now ≡ i) ⊎ (see.grammar output.now ≡ o)
+        → Stands side.output (see.grammar output.now) alphabet.now h) }
 {
     let Ok(states) = Auto::of(alloc, output, 256) else {
         return Err(NoMachine::NotRead);
