@@ -347,6 +347,11 @@ def reference(number):
     return {"I": ANY, "D": f"<a>&#{number};</a>"}
 
 
+def cut_tag():
+    """A tag whose name has a fault, and that ends behind its slash: both readers tell the end."""
+    return {"I": ANY, "D": "<p:e/"}
+
+
 def declared(count):
     return "".join(f' xmlns:p{number}="u"' for number in range(count))
 
@@ -529,7 +534,7 @@ def levels(count, depth):
 KINDS = (
     elements, braces, groups, pluses, empties, suffixed, starts, classes, excepts, excepts_attribute, divisions, balanced,
     particles, tests, predicate, brackets, ifs, spots, reach, copies, branches, applies, residues, rows, definitions, repeated_definitions, calls,
-    modes, uncalled, one_body, twice, one, marks, attributes, tags, long_namespace, references, reference, declarations, scopes,
+    modes, uncalled, one_body, twice, one, marks, attributes, tags, long_namespace, references, reference, cut_tag, declarations, scopes,
     prefixes, prefixed, long_calls, schema_prefixes, chains, others, alike, alike_templates, unlike, names, optionals,
     interleaves, doubled, stars, subsets, nested, selects, alternatives, pairs, path, windows, ancestors, levels,
 )  # fmt: skip
