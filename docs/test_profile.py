@@ -14,7 +14,7 @@ PROFILE, README = Path("docs/PROFILE.md").read_text(), Path("README.md").read_te
 REASONS = Path("crates/tc_base/src/reasons.rt").read_text()
 READING_FAULTS = Path("crates/tc_read/src/faults.rt").read_text()
 ANSWERS = Path("crates/tc_answer/src/answer.rt").read_text()
-COMMANDS = Path("crates/tc_answer/src/command.rt").read_text()
+WORDS = Path("crates/tc_answer/src/limits.rt").read_text()
 STATUSES = Path("crates/tc_answer/src/status.rt").read_text()
 LIMITS = [Path("crates", crate, "src/limits.rt").read_text() for crate in ("tc_base", "tc_decide")]
 # the crates that refuse texts, some together, with how the title of their section in PROFILE begins
@@ -32,9 +32,9 @@ MEANINGS |= dict(ReadFault="read", WriteFault="written", NoMemory="memory")
 
 
 def tables(text, head):
-    """The rows of cells of each table in a text that has this head."""
-    found = re.findall(rf"^\| {re.escape(head)} \|\n\|[-:|]+\|\n((?:\|.*\|\n)+)", text, re.M)
-    return [[row[2:-2].split(" | ") for row in rows.splitlines()] for rows in found]
+    """The rows of cells of each table in a text that has this head, with bars around its rows or without."""
+    found = re.findall(rf"^(?:\| )?{re.escape(head)}(?: \|)?\n[-:|]+\n((?:.* \| .*\n)+)", text, re.M)
+    return [[row.removeprefix("| ").removesuffix(" |").split(" | ") for row in rows.splitlines()] for rows in found]
 
 
 def section(title):
@@ -121,8 +121,8 @@ class Limits(unittest.TestCase):
                 self.assertEqual(number, "; ".join(f"{int(one):,}" for one in told))
 
     def test_numbers_of_words(self):
-        most = numbers_of(COMMANDS)
-        limit, piece, demo = most["MOST_LIMIT"], most["LARGEST_PIECE"], most["MOST_DEMO"]
+        most = numbers_of(WORDS)
+        limit, piece, demo = self.numbers["GREATEST_LIMIT"], most["LARGEST_PIECE"], most["MOST_DEMO"]
         words = f"N of `--limit` is from 1 to {limit:,}, N of `--stream` from 1 to {piece:,}, and N of `demo` from 1 to {demo}, in"
         self.assertIn(words, section("Words"))
 

@@ -21,6 +21,9 @@ pub data Shape : Type 0 where
   -- with its side
   square : ℕ → Shape
 
+pub data Colour : Type 0 where
+  red green : Colour
+
 abbrev pub side : Shape → ℕ
 side dot = 0
 side (square n) = n
@@ -44,7 +47,7 @@ pub record Named (side : ℕ) : Type 0 where
 
 LISTS = """-- Lists of shapes.
 use Rattle.std.specs.Prelude.{ℕ, ◌+◌, if◌then◌else◌}
-use Rattle.low.specs.Shapes.{Shape, dot as point, Drawn}
+use Rattle.low.specs.Shapes.{Shape, dot as point, Drawn, Colour, green}
 use Rattle.low.specs.Shapes as shapes
 pub use Rattle.low.specs.Shapes.{is_dot}
 use Rattle.low.specs.declared.limits.TheConstants.{MOST}
@@ -70,6 +73,10 @@ module _ (first : Shape) (f : ℕ →
 
 abbrev pub by_kind : Shape → ℕ
 by_kind s = elim s [ point ↦ 0 | shapes.square neither ↦ neither ]
+
+abbrev pub by_colour : Colour → ℕ
+by_colour green = 0
+by_colour shapes.red = 1
 
 abbrev pub bound : ℕ → ℕ
 bound even = (λ odd. odd + even) (let neither = 1 in neither)
@@ -157,6 +164,9 @@ class MadeUp(unittest.TestCase):
         self.assertEqual(self.rests_on("high.specs.Lists", "by_kind"), {"Shape", "ℕ"})
         self.assertEqual(self.rests_on("high.specs.Lists", "bound"), {"ℕ", "◌+◌"})
 
+    def test_constructors_on_one_line(self):
+        self.assertEqual(self.rests_on("high.specs.Lists", "by_colour"), {"Colour", "ℕ"})
+
     def test_definitions_behind_where_are_of_the_whole(self):
         self.assertEqual(self.rests_on("high.specs.Lists", "helped"), {"ℕ"})
         self.assertEqual(self.lines("high.specs.Lists", "helped"), 5)
@@ -206,6 +216,14 @@ class Repository(unittest.TestCase):
         rows = trust.PAGE.read_text().split("| `safe` | in words |")[1].split("\n\n")[0]
         clause = re.search(r"    ensures safe \{(.*?)\}\n", Path(trust.CODE[0]).read_text(), re.S)[1]
         self.assertEqual(" → ".join(re.findall(r"^\| `(.*?)` \| ", rows, re.M)), " ".join(clause.split()))
+
+    def test_each_clause_stands_in_the_row_of_its_call(self):
+        rows = dict(re.findall(r"^\| `(.*?)` \| (.*) \|$", trust.clause_table(self.found), re.M))
+        told = {(call, clause): sums for call, cells in rows.items() for clause, sums in re.findall(r"(?:`(\w+)` )?(\d+/\d+)", cells)}
+        self.assertEqual(len(told), len(self.found))
+        for call, clause, name in (("check", "safe", "check.safe"), ("typecheck", "safe", "safe"), ("law_of_proofs", "", "law_of_proofs")):
+            one = self.found[name]
+            self.assertEqual(told[call, clause], f"{one.lines()}/{len(one.modules())}")
 
     def test_the_page_is_as_it_is_written(self):
         self.assertEqual(trust.page(trust.PAGE.read_text(), self.found), trust.PAGE.read_text())

@@ -21,6 +21,8 @@ CODE = (
     "crates/tc_decide/src/running.rt",
     "crates/tc_decide/src/comparing.rt",
     "crates/tc_decide/src/spots.rt",
+    "crates/tc_decide/src/validating.rt",
+    "crates/tc_decide/src/pieces.rt",
     "crates/tc_top/src/lib.rt",
     "crates/tc_top/src/program.rt",
     "crates/tc_top/src/laws.rt",
@@ -169,8 +171,14 @@ def first_table(safe):
 
 
 def clause_table(found):
-    rows = [[f"`{name}`", len(one.modules()), one.lines()] for name, one in found.items()]
-    return table(["clause", "modules", "lines"], rows)
+    """A row a call, with its clauses; a law without names of clauses is a call of its own."""
+    rows = {}
+    for name, one in found.items():
+        call, _, clause = name.rpartition(".")
+        if not call:
+            call, clause = (name, "") if name.startswith("law_of_") else ("typecheck", name)
+        rows.setdefault(call, []).append(f"`{clause}` {one.lines()}/{len(one.modules())}".removeprefix("`` "))
+    return table(["call", "clauses, each with lines/modules"], [[f"`{call}`", ", ".join(cells)] for call, cells in rows.items()])
 
 
 def page(text, found):
