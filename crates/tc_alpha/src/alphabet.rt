@@ -17,6 +17,7 @@ use std::alloc::{AllocError, Global};
 use std::cmp::Ordering;
 use std::marker::Model;
 use tc_base::NoMemory;
+use tc_base::limits::MOST_SYMBOLS;
 use tc_model::{Grammar, Name, Sheet};
 
 /// The law of symbols: names of one symbol are in the same name classes and pass the same node tests of the
@@ -30,9 +31,6 @@ pub fn law_of_symbols()
     ensures first_free { AreFirstFree }
     ensures schemas { SchemasHaveTheirSymbols }
 {}
-
-/// How many symbols there may be.
-const MOST_SYMBOLS: usize = 1024;
 
 /// A symbol's number, from 0, in the order of the symbols.
 #[derive(Clone, Copy, Debug, PartialEq, Eq, PartialOrd, Ord, Hash)]
@@ -121,6 +119,7 @@ pub struct Alphabet {
 
 impl Model for Alphabet {
     ghost use Rattle.std.specs.Prelude.{List, ◌<◌, length};
+    ghost use Rattle.tc_base.specs.declared.limits.TheConstants.{MOST_SYMBOLS};
     ghost use Rattle.tc_model.specs.Symbols.{Mention, AreSymbols};
 
     ghost Value = { List Mention };
@@ -129,7 +128,7 @@ impl Model for Alphabet {
 
     ghost view = { λ a. all_known a.symbols.items };
 
-    ghost invariant = { λ a. AreSymbols (all_known a.symbols.items) × (length (all_known a.symbols.items) < 1024) };
+    ghost invariant = { λ a. AreSymbols (all_known a.symbols.items) × (length (all_known a.symbols.items) < MOST_SYMBOLS) };
 }
 
 impl Alphabet {
@@ -145,10 +144,10 @@ impl Alphabet {
         ensures few { OnOk result
             (symbol_count
             (symbols_of (see.grammar input.now) (see.grammar output.now) (see.sheet sheet.now))
-            ≤ 1024) }
+            ≤ MOST_SYMBOLS) }
         ensures many { IfErr result
             (λ e. e ≡ AlphaFault.TooManySymbols
-            → 1024 < symbol_count
+            → MOST_SYMBOLS < symbol_count
             (symbols_of (see.grammar input.now) (see.grammar output.now) (see.sheet sheet.now))) }
     {
         let mentions = mentions_of(alloc, input, output, sheet)?;
@@ -158,7 +157,7 @@ impl Alphabet {
     /// How many symbols there are.
     pub fn count(&self) -> u32
         ensures number { result ≡ symbol_count self.now }
-        ensures few { result ≤ 1024 }
+        ensures few { result ≤ MOST_SYMBOLS }
     {
         self.own() as u32 + 1
     }
@@ -166,7 +165,7 @@ impl Alphabet {
     /// How many symbols there are but for the last.
     fn own(&self) -> usize
         ensures number { result ≡ length self.now }
-        ensures few { result < 1024 }
+        ensures few { result < MOST_SYMBOLS }
     {
         self.symbols.len()
     }
@@ -275,11 +274,11 @@ fn mention_by<'u: 'm, 'm>(within: Option<&'u str>, text: &'m str) -> Mention<'m>
 fn of_mentions(alloc: Global, mentions: &[Mention<'_>]) -> Result<Alphabet, AlphaFault>
     requires { AreSymbols (seen mentions.now) }
     ensures stands { IfOk result (λ a. a ≡ seen mentions.now) }
-    ensures few { OnOk result (symbol_count (seen mentions.now) ≤ 1024) }
+    ensures few { OnOk result (symbol_count (seen mentions.now) ≤ MOST_SYMBOLS) }
     ensures many { IfErr result
-        (λ e. e ≡ AlphaFault.TooManySymbols → 1024 < symbol_count (seen mentions.now)) }
+        (λ e. e ≡ AlphaFault.TooManySymbols → MOST_SYMBOLS < symbol_count (seen mentions.now)) }
 {
-    if mentions.len() >= MOST_SYMBOLS {
+    if mentions.len() >= MOST_SYMBOLS as usize {
         return Err(AlphaFault::TooManySymbols);
     }
     let symbols = all_kept(alloc, mentions)?;

@@ -41,3 +41,22 @@ pub const MOST_WORK: u32 = 4_000_000;
 
 /// How many bodies and instructions of a run stand within one another.
 pub const MOST_OPEN: u32 = 8_000;
+
+/// How deep what a text writes stands within one another: elements, patterns, parentheses.
+pub const DEEPEST_NESTING: u32 = 2_000;
+
+/// The most bytes of a tag of a document that comes in pieces.
+pub const LONGEST_TAG: usize = 65_536;
+
+/// The most bytes that the names of the open elements of a document that comes in pieces have, with the prefixes and
+/// namespace names that they declare.
+pub const MOST_NAMES: usize = 65_536;
+
+/// The greatest number of rows that may be given: of live trees, and of live lists of trees.
+pub const GREATEST_LIMIT: u32 = 4_000;
+
+/// The most sets of pairs of states of the output in these rows.
+pub const MOST_OUTPUTS: u32 = 65_536;
+
+/// The most nodes of a document that is shown: a counterexample, one that two schemas differ by, or one that uses a spot.
+pub const MOST_SHOWN_NODES: u32 = 2_000;

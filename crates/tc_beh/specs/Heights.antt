@@ -1,10 +1,11 @@
 -- How many instructions of a body stand within one another, where the heights of the named bodies that it calls are given; at most one more than 8,000.
 use Rattle.std.specs.Prelude.{ℕ, ◌+◌, max, min, List, [], ◌∷◌, get_or, slice_set}
+use Rattle.tc_base.specs.declared.limits.TheConstants.{DEEPEST_CALLS}
 use Rattle.tc_model.specs.Sheets.{Body, no_instruction, put_text, put_element, copy, apply, call, for_each, value, value_of_self, choose, Branches, otherwise, branch, Rule}
 
 -- one more, but for too many
 abbrev pub one_more : ℕ → ℕ
-one_more n = min (n + 1) 8001
+one_more n = min (n + 1) (DEEPEST_CALLS + 1)
 
 module _ (heights : List ℕ) where
   abbrev mutual

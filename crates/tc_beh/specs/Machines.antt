@@ -1,5 +1,6 @@
 -- What a machine stands for, and why there is none.
 use Rattle.std.specs.Prelude.{◌≡◌, ◌≤◌, max, List, length}
+use Rattle.tc_base.specs.declared.limits.TheConstants.{DEEPEST_CALLS, MOST_ENTRIES}
 use Rattle.tc_model.specs.States.{input, output, state_count}
 use Rattle.tc_model.specs.Symbols.{Mention, symbol_count}
 use Rattle.tc_hedge.specs.Stands as h
@@ -27,12 +28,12 @@ AreSomeParts inner outer rules symbols = (x : Triple) × AreParts x inner outer 
 
 -- the limits are kept
 abbrev pub KeepsLimits : Triple → Type 0
-KeepsLimits x = ¬ PassCalls (sheet x) 8000 × ¬ PassEntries x 8192
+KeepsLimits x = ¬ PassCalls (sheet x) DEEPEST_CALLS × ¬ PassEntries x MOST_ENTRIES
 
 -- of the limits that are passed the first
 abbrev pub IsMachineCause : Triple → MachineFault → Type 0
-IsMachineCause x TooManyCalls = PassCalls (sheet x) 8000
-IsMachineCause x TooManyEntries = ¬ PassCalls (sheet x) 8000 × PassEntries x 8192
+IsMachineCause x TooManyCalls = PassCalls (sheet x) DEEPEST_CALLS
+IsMachineCause x TooManyEntries = ¬ PassCalls (sheet x) DEEPEST_CALLS × PassEntries x MOST_ENTRIES
 IsMachineCause x NoMemory = Unit {0}
 
 pub record IsMachineOf (x : Triple) (m : Machine) : Type 0 where
@@ -40,7 +41,7 @@ pub record IsMachineOf (x : Triple) (m : Machine) : Type 0 where
   pub limits : KeepsLimits x
   pub order : AreCalleesFirst (sheet x).named m.order.items
   pub depth : m.depth ≡ max (deepest_rule (sheet x).rules) (deepest (sheet x).named)
-  pub shallow : m.depth ≤ 8000
+  pub shallow : m.depth ≤ DEEPEST_CALLS
 
 abbrev pub IsMachine : Machine → Type 0
 IsMachine m = (x : Triple) × IsMachineOf x m

@@ -1,5 +1,6 @@
 -- Sets of pairs that stand open in a body, and those that were met on the way.
 use Rattle.std.specs.Prelude.{◌≡◌, ◌<◌, ◌≤◌, ℕ, List, length, Option, Some, None, All, IfSome}
+use Rattle.tc_base.specs.declared.limits.TheConstants.{DEEPEST_CALLS}
 use Rattle.tc_hedge.specs.Leading.{ArePairsAround}
 use Rattle.tc_hedge.specs.Stands.{Stands}
 use Rattle.tc_hedge.specs.declared.hedge.Hedge.{Hedge}
@@ -88,7 +89,7 @@ pub record IsOpenAt (p : Place) (depth : ℕ) (o : Open) : Type 0 where
   pub remembers : Remembers p.output.now o.met
   pub links : AreLinked p.outputs.now o.met
   pub room : depth ≤ o.room
-  pub few : o.room ≤ 8000
+  pub few : o.room ≤ DEEPEST_CALLS
 
 -- all but the set that is put together stays, and what is remembered of the output schema and of rows is right
 pub record IsBeside (m : Hedge) (h : Held) (old new : Open) : Type 0 where

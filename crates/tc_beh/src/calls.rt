@@ -16,11 +16,12 @@ use bumpalo::Bump;
 use bumpalo::collections::into_bump_slice;
 use std::alloc::Global;
 use tc_base::NoMemory;
+use tc_base::limits::DEEPEST_CALLS;
 use tc_graph::components;
 use tc_model::{Branch, Instr, Rule, Sheet};
 
 /// One more than the most instructions that may stand within one another.
-pub(crate) const TOO_MANY: u32 = 8001;
+pub(crate) const TOO_MANY: u32 = DEEPEST_CALLS + 1;
 
 fn put_callee(found: &mut Vec<usize, &Bump>, number: u32) -> Result<(), NoMemory>
     ensures { OnOk result (found.new.items ≡ found.old.items ++ number ∷ []) }

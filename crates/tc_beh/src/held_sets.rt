@@ -1,5 +1,6 @@
 // The sets of pairs that stand in rows, each held once, with some of their products.
 ghost use Rattle.std.specs.Prelude.{◌≡◌, ◌<◌, ◌≤◌, ◌++◌, ◌∷◌, [], Some, slice_get, length, IfOk, IfSome, OnErr, MatchOption, true};
+ghost use Rattle.tc_base.specs.declared.limits.TheConstants.{MOST_OUTPUTS};
 ghost use Rattle.tc_mat.specs.Matrix.{IsIdentity};
 ghost use Rattle.std.specs.Result.{IsErrOf};
 ghost use Rattle.tc_mat.specs.Held.{Held, AreDifferent, AreMatrices, IsHeld};
@@ -97,7 +98,7 @@ impl HeldSets {
     /// How many sets are held.
     pub(crate) fn len(&self) -> u32
         ensures count { result ≡ length self.now.matrices }
-        ensures bound { length self.now.matrices ≤ 65536 }
+        ensures bound { length self.now.matrices ≤ MOST_OUTPUTS }
         ensures different { AreDifferent self.now }
         ensures matrices { AreMatrices self.now }
     {
@@ -145,7 +146,7 @@ impl HeldSets {
         ensures grows { IfOk result (λ id. (id.0 ≡ length self.old.matrices)
             × (self.new ≡ record self.old { matrices = self.old.matrices ++ set.now ∷ [] })) }
         ensures err { OnErr result (self.new ≡ self.old) }
-        ensures full { IsErrOf result PoolFault.PoolFull → length self.old.matrices ≡ 65536 }
+        ensures full { IsErrOf result PoolFault.PoolFull → length self.old.matrices ≡ MOST_OUTPUTS }
     {
         self.guesses.keep(set, self.pool.len());
         let is_nothing = is_same(set, &self.identity);

@@ -1,6 +1,7 @@
 // What is held as lists of pairs, and lists of pairs as what is held.
 ghost use Rattle.std.specs.Prelude.{◌≡◌, ◌<◌, ◌≤◌, ◌++◌, ◌∷◌, [], ℕ, length, All, IfOk, OnOk, IfSome, MatchOption};
 ghost use Rattle.std.specs.List.{Contains};
+ghost use Rattle.tc_base.specs.declared.limits.TheConstants.{MOST_OUTPUTS};
 ghost use Rattle.tc_mat.specs.Matrix.{IsMatrix};
 ghost use Rattle.tc_mat.specs.Held.{IsHeld};
 ghost use Rattle.tc_rows.specs.PairSets.{IsPairs};
@@ -31,7 +32,7 @@ fn put_pairs(set: &mut Mat, pairs: &Pairs)
 fn hold(outputs: &mut Pool, set: &Mat) -> Result<(), NoMemory>
     requires size { set.now.size ≡ outputs.old.size }
     requires absent { ¬ IsHeld outputs.old set.now }
-    requires few { length outputs.old.matrices < 65536 }
+    requires few { length outputs.old.matrices < MOST_OUTPUTS }
     ensures { OnOk result
         (outputs.new ≡ record outputs.old { matrices = outputs.old.matrices ++ set.now ∷ [] }) }
 {
@@ -43,7 +44,7 @@ fn hold(outputs: &mut Pool, set: &Mat) -> Result<(), NoMemory>
 
 /// Sets of these pairs, each with its place as its number.
 pub(crate) fn pool_of(alloc: Global, size: u32, lists: &PairLists) -> Result<Pool, NoMemory>
-    requires few { length lists.now ≤ 65536 }
+    requires few { length lists.now ≤ MOST_OUTPUTS }
     requires distinct { AreDistinct lists.now }
     requires pairs { All (IsPairs size) lists.now }
     ensures size { IfOk result (λ p. p.size ≡ size) }

@@ -1,5 +1,6 @@
 // What rows are worked out by.
 ghost use Rattle.std.specs.Prelude.{◌≡◌, ◌≤◌, ◌+◌, ◌*◌, max, IfOk, OnOk, IfErr};
+ghost use Rattle.tc_base.specs.declared.limits.TheConstants.{DEEPEST_CALLS};
 ghost use Rattle.tc_model.specs.States as s;
 ghost use Rattle.tc_model.specs.Symbols.{symbol_count};
 ghost use Rattle.tc_rows.specs.Triples as t;
@@ -15,11 +16,9 @@ use crate::symbols::Symbols;
 use std::alloc::Global;
 use tc_alpha::Alphabet;
 use tc_base::NoMemory;
+use tc_base::limits::MOST_ENTRIES;
 use tc_hedge::Hedge;
 use tc_rules::Rules;
-
-/// The most ancestor states times move states, plus look states.
-const MOST_ENTRIES: u32 = 8192;
 
 /// How long the parts of rows are, and below which numbers those in them are.
 #[derive(Clone, Copy, Debug, PartialEq, Eq)]
@@ -92,7 +91,7 @@ fn order_of(alloc: Global, rules: &Rules<'_>) -> Result<Vec<usize>, MachineFault
     ensures order { IfOk result
         (λ o. (x : Triple) → IsRulesIn x rules.now → AreCalleesFirst (t.sheet x).named o.items) }
     ensures shallow { OnOk result ((x : Triple) → IsRulesIn x rules.now
-        → max (deepest_rule (t.sheet x).rules) (deepest (t.sheet x).named) ≤ 8000) }
+        → max (deepest_rule (t.sheet x).rules) (deepest (t.sheet x).named) ≤ DEEPEST_CALLS) }
     ensures within { OnOk result ((x : Triple) → IsRulesIn x rules.now → KeepsLimits x) }
     ensures cause { IfErr result (λ e. (x : Triple) → IsRulesIn x rules.now → IsMachineCause x e) }
 {

@@ -1,6 +1,7 @@
 // Rows and what they are worked out in.
 ghost use Rattle.std.specs.Prelude.{◌≡◌, ◌<◌, ◌≤◌, ◌+◌, ℕ, [], length, get_or, IfOk, OnOk, All};
 ghost use Rattle.std.specs.List.{Contains};
+ghost use Rattle.tc_base.specs.declared.limits.TheConstants.{MOST_OUTPUTS};
 ghost use Rattle.tc_mat.specs.Matrix.{Matrix, IsMatrix, HasPair};
 ghost use Rattle.tc_beh.specs.Machines.{IsMachine, IsMachineOf};
 ghost use Rattle.tc_rows.specs.Triples.{Triple};
@@ -150,7 +151,7 @@ impl<'m, 'b> Rows<'m, 'b> {
         outputs: &PairLists,
     ) -> Result<Rows<'m, 'b>, NoMemory>
         requires machine { IsMachine machine.now }
-        requires few { length outputs.now ≤ 65536 }
+        requires few { length outputs.now ≤ MOST_OUTPUTS }
         requires distinct { AreDistinct outputs.now }
         requires pairs { (x : Triple) → IsMachineOf x machine.now
             → All (IsPairs (output_states x)) outputs.now }
@@ -197,7 +198,7 @@ impl<'m, 'b> Rows<'m, 'b> {
     /// How many sets of pairs are held, at most 65,536, none of them twice.
     pub fn output_count(&self) -> u32
         ensures count { result ≡ length self.now.outputs.matrices }
-        ensures few { result ≤ 65536 }
+        ensures few { result ≤ MOST_OUTPUTS }
         ensures different { AreDifferent self.now.outputs }
     {
         self.outputs.len()
@@ -263,7 +264,7 @@ impl<'m, 'b> Rows<'m, 'b> {
             × IsLeftOut self.new.outputs r.entries) }
         ensures fixed { self.old.is_fixed ≡ true → self.new.outputs ≡ self.old.outputs }
         ensures full { IsErrOf result RowFault.TooManyOutputs → (self.old.is_fixed ≡ false)
-            × (length self.new.outputs.matrices ≡ 65536) }
+            × (length self.new.outputs.matrices ≡ MOST_OUTPUTS) }
         ensures fresh { IsErrOf result RowFault.NewOutput → self.old.is_fixed ≡ true }
         ensures memory { IsErrOf result RowFault.NoMemory → self.old.is_fixed ≡ false }
     {
@@ -317,7 +318,7 @@ impl<'m, 'b> Rows<'m, 'b> {
             × IsLeftOut self.new.outputs r.entries) }
         ensures fixed { self.old.is_fixed ≡ true → self.new.outputs ≡ self.old.outputs }
         ensures full { IsErrOf result RowFault.TooManyOutputs → (self.old.is_fixed ≡ false)
-            × (length self.new.outputs.matrices ≡ 65536) }
+            × (length self.new.outputs.matrices ≡ MOST_OUTPUTS) }
         ensures fresh { IsErrOf result RowFault.NewOutput → self.old.is_fixed ≡ true }
         ensures memory { IsErrOf result RowFault.NoMemory → self.old.is_fixed ≡ false }
     {

@@ -1,5 +1,6 @@
 // Rows of texts, and of elements around trees.
 ghost use Rattle.std.specs.Prelude.{◌≡◌, ◌<◌, ◌≤◌, ◌+◌, ◌-◌, ◌⊎◌, ◌==◌, ℕ, [], length, get_or, OnOk, OnErr, true, false};
+ghost use Rattle.tc_base.specs.declared.limits.TheConstants.{MOST_OUTPUTS};
 ghost use Rattle.tc_mat.specs.Held.{AreMatrices};
 ghost use Rattle.tc_rows.specs.Triples.{Triple};
 ghost use Rattle.tc_rows.specs.Arithmetic.{letter_around, letter_of_text};
@@ -178,7 +179,7 @@ impl<'m, 'b> Rows<'m, 'b> {
             × IsLeftOut self.new.outputs r.entries) }
         ensures fixed { self.old.is_fixed ≡ true → self.new.outputs ≡ self.old.outputs }
         ensures full { IsErrOf result RowFault.TooManyOutputs → (self.old.is_fixed ≡ false)
-            × (length self.new.outputs.matrices ≡ 65536) }
+            × (length self.new.outputs.matrices ≡ MOST_OUTPUTS) }
         ensures fresh { IsErrOf result RowFault.NewOutput → self.old.is_fixed ≡ true }
         ensures memory { IsErrOf result RowFault.NoMemory → self.old.is_fixed ≡ false }
     {
@@ -238,7 +239,7 @@ impl<'m, 'b> Rows<'m, 'b> {
             × IsLeftOut self.new.outputs r.entries) }
         ensures fixed { self.old.is_fixed ≡ true → self.new.outputs ≡ self.old.outputs }
         ensures full { IsErrOf result RowFault.TooManyOutputs → (self.old.is_fixed ≡ false)
-            × (length self.new.outputs.matrices ≡ 65536) }
+            × (length self.new.outputs.matrices ≡ MOST_OUTPUTS) }
         ensures fresh { IsErrOf result RowFault.NewOutput → self.old.is_fixed ≡ true }
         ensures memory { IsErrOf result RowFault.NoMemory → self.old.is_fixed ≡ false }
     {

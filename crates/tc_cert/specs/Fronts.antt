@@ -2,6 +2,7 @@
 -- Whether the text can still be completed isn't looked at, so each text that is no certificate's has one
 -- first faulty line.
 use Rattle.std.specs.Prelude.{◌≡◌, ◌≤◌, ◌+◌, ℕ, List, [], ◌++◌, length, flat_map, map, All, codes}
+use Rattle.tc_base.specs.declared.limits.TheConstants.{GREATEST_LIMIT, MOST_OUTPUTS}
 use Rattle.tc_model.specs.declared.lists.TreeLine.{TreeLine}
 use Rattle.tc_model.specs.declared.lists.HedgeLine.{HedgeLine}
 use Rattle.tc_model.specs.declared.lists.CertData.{CertData}
@@ -39,19 +40,19 @@ front_text (finished v d) = text v d
 -- so many outputs or rows at most, in the order of their lines
 pub record AreOutputs (most : ℕ) (outputs : List (List (ℕ × ℕ))) : Type 0 where
   pub few : length outputs ≤ most
-  pub most_few : most ≤ 65536
+  pub most_few : most ≤ MOST_OUTPUTS
   pub formed : All ArePairs outputs
   pub ordered : AreOrdered (map pairs_line outputs)
 
 pub record AreTrees (most : ℕ) (trees : List TreeLine) : Type 0 where
   pub few : length trees ≤ most
-  pub most_few : most ≤ 4000
+  pub most_few : most ≤ GREATEST_LIMIT
   pub formed : All IsFormedTree trees
   pub ordered : AreOrdered (map tree_line trees)
 
 pub record AreHedges (most : ℕ) (hedges : List HedgeLine) : Type 0 where
   pub few : length hedges ≤ most
-  pub most_few : most ≤ 4000
+  pub most_few : most ≤ GREATEST_LIMIT
   pub formed : All IsFormedHedge hedges
   pub ordered : AreOrdered (map hedge_line hedges)
 

@@ -1,5 +1,6 @@
 -- Rows at the front of bytes: the first of a kind, one written whole behind another, one by its changes.
 use Rattle.std.specs.Prelude.{◌≡◌, ◌∷◌, ◌++◌, ℕ, List, Bool, true, length, get_or, All, ◌≤◌, ◌<◌, ◌≢◌}
+use Rattle.tc_base.specs.declared.limits.TheConstants.{LONGEST_FILE}
 use Rattle.tc_model.specs.CertificateLines.{changes}
 use Rattle.tc_cert.specs.Fields.{Fields, IsFormedRow, row_line, row_changes, are_like}
 use Rattle.tc_cert.specs.Orders.{row_order}
@@ -43,7 +44,7 @@ IsMadeBehind b one other members outs looks result = (f : Fields) → IsMade b o
 
 -- rows whose lists are no longer than a file
 pub record IsShort (f : Fields) : Type 0 where
-  pub members : length f.members ≤ 67108864
-  pub outs : length f.outs ≤ 67108864
-  pub looks : length f.looks ≤ 67108864
+  pub members : length f.members ≤ LONGEST_FILE
+  pub outs : length f.outs ≤ LONGEST_FILE
+  pub looks : length f.looks ≤ LONGEST_FILE
   pub small : All (λ n. n ≤ 2) f.looks

@@ -1,5 +1,6 @@
 -- What is answered where bytes aren't the text of a certificate, or where its text in version 2 is too long.
 use Rattle.std.specs.Prelude.{◌≡◌, ◌<◌, ◌≤◌, ◌++◌, ℕ, List, length, codes}
+use Rattle.tc_base.specs.declared.limits.TheConstants.{LONGEST_FILE}
 use Rattle.tc_model.specs.declared.lists.CertData.{CertData}
 use Rattle.tc_model.specs.CertificateData.{IsFormed}
 use Rattle.tc_cert.specs.Texts.{text, by_changes, CertificateText}
@@ -20,7 +21,7 @@ IsUnread bytes fault.NoMemory = Unit {0}
 pub record IsLong (bytes : List ℕ) : Type 0 where
   pub held : CertData
   pub means : CertificateText bytes held
-  pub long : 67108864 < length (text by_changes held)
+  pub long : LONGEST_FILE < length (text by_changes held)
 
 -- why there is no text in version 2
 abbrev pub IsNotUpgraded : List ℕ → UpgradeFault → Type 0
@@ -33,7 +34,7 @@ pub record IsUpgraded (bytes out : List ℕ) : Type 0 where
   pub held : CertData
   pub means : CertificateText bytes held
   pub spelled : out ≡ text by_changes held
-  pub within : length out ≤ 67108864
+  pub within : length out ≤ LONGEST_FILE
 
 -- the first line is that of version 2
 pub record BeginsByChanges (bytes : List ℕ) : Type 0 where
@@ -51,8 +52,8 @@ write_fault writing.NoMemory = upgrade.NoMemory
 
 -- bytes that are no longer than a file are the text of one data at most
 abbrev pub OneData : Type 0
-OneData = (bytes : List ℕ) → length bytes ≤ 67108864 → (d e : CertData) → CertificateText bytes d → CertificateText bytes e → d ≡ e
+OneData = (bytes : List ℕ) → length bytes ≤ LONGEST_FILE → (d e : CertData) → CertificateText bytes d → CertificateText bytes e → d ≡ e
 
 -- what is written of formed data is the text of that data, and of no other
 abbrev pub WrittenIsRead : Type 0
-WrittenIsRead = (d : CertData) → IsFormed d → length (text by_changes d) ≤ 67108864 → CertificateText (text by_changes d) d × ((e : CertData) → CertificateText (text by_changes d) e → e ≡ d)
+WrittenIsRead = (d : CertData) → IsFormed d → length (text by_changes d) ≤ LONGEST_FILE → CertificateText (text by_changes d) d × ((e : CertData) → CertificateText (text by_changes d) e → e ≡ d)

@@ -4,6 +4,7 @@ use Rattle.std.specs.Borrow.{Bor}
 use Rattle.std.specs.Ordering.{nat_cmp}
 use Rattle.std.specs.declared.cmp.Ordering.TheVariants.{Less}
 use Rattle.std.specs.Cmp.Lexicographic.{slice_cmp}
+use Rattle.tc_base.specs.declared.limits.TheConstants.{LONGEST_FILE}
 use Rattle.tc_model.specs.CertificateLines.{pairs_line}
 use Rattle.tc_cert.specs.Texts.{Version}
 use Rattle.tc_cert.specs.Fronts.{Front, line_count, BeginsWith}
@@ -47,7 +48,7 @@ IsEndFault r cert.NoMemory = Unit {0}
 
 -- the front that was read, and the reader behind it
 pub record Stands (v : Version) (bytes : List ℕ) (f : Front) (r : Reader) : Type 0 where
-  pub short : length bytes ≤ 67108864
+  pub short : length bytes ≤ LONGEST_FILE
   pub begins : BeginsWith bytes f r.rest.now
   pub lines : r.lines ≡ line_count f
   pub style : version_of r.style ≡ v

@@ -1,5 +1,6 @@
 // The place in a text of which some lines were read.
 ghost use Rattle.std.specs.Prelude.{◌≡◌, ◌≤◌, ◌<◌, ◌+◌, length};
+ghost use Rattle.tc_base.specs.declared.limits.TheConstants.{LONGEST_FILE};
 
 use crate::rows::Style;
 
@@ -11,7 +12,7 @@ pub(crate) struct Reader<'t> {
     pub(crate) style: Style,
     /// How many lines were read.
     pub(crate) lines: u32,
-    ghost short: { lines + length rest.now ≤ 67108864 },
+    ghost short: { lines + length rest.now ≤ LONGEST_FILE },
 }
 
 impl<'t> Reader<'t> {

@@ -2,6 +2,7 @@
 // A few hundred bytes of version 2 may mean rows of millions of numbers. So a text is gone through here
 // before it is unfolded, and only what fits is to be: at most 8,000 rows of 8,192 numbers.
 ghost use Rattle.std.specs.Prelude.{◌≡◌, ◌≤◌, ◌↔◌, ℕ, List, [], length, IfOk, IfErr, IsTrue, MatchOption, MatchResult};
+ghost use Rattle.tc_base.specs.declared.limits.TheConstants.{LONGEST_FILE};
 ghost use Rattle.tc_model.specs.declared.lists.TreeLine.{TreeLine};
 ghost use Rattle.tc_model.specs.declared.lists.CertData.{CertData};
 ghost use Rattle.tc_model.specs.CertificateFits.{Sizes, AllFit, AreFrom, IsFirstUnfit, PairsFit, RowFits};
@@ -17,6 +18,7 @@ use crate::faults::CertFault;
 use crate::ranges::Ranges;
 use crate::rows::{Kind, Row};
 use std::alloc::Global;
+use tc_base::limits::{GREATEST_LIMIT, MOST_OUTPUTS};
 use tc_model::Pairs;
 
 /// Whether each number is one of so many from the first.
@@ -81,7 +83,7 @@ fn first_output(
     count: u32,
     states: u32,
 ) -> Result<Option<u32>, CertFault>
-    requires { count ≤ 65536 }
+    requires { count ≤ MOST_OUTPUTS }
     ensures { (v : Version) (bytes : List ℕ) (s : Sizes) → s.output_states ≡ states
         → Stands v bytes (in_outputs v count []) reader.old
         → MatchResult result
@@ -111,7 +113,7 @@ fn first_row(
     listed: u32,
     told_before: Option<u32>,
 ) -> Result<Option<u32>, CertFault>
-    requires { count ≤ 4000 }
+    requires { count ≤ GREATEST_LIMIT }
     ensures { (v : Version) (bytes : List ℕ) (os : List (List (ℕ × ℕ))) (ts : List TreeLine)
         → length os ≡ listed → Stands v bytes (rows_front kind v os ts count []) reader.old
         → Told (sizes_of ranges) (rows_data kind os ts []) told_before
@@ -138,7 +140,7 @@ fn first_row(
 /// `Form` comes exactly where the bytes are no certificate's text, whatever fits. It keeps one row, and so takes memory
 /// and time in proportion to the text.
 pub fn first_unfit(alloc: Global, text: &[u8], ranges: Ranges) -> Result<Option<u32>, CertFault>
-    requires { length text.now ≤ 67108864 }
+    requires { length text.now ≤ LONGEST_FILE }
     ensures ok { IfOk result
         (λ told. (d : CertData) × CertificateText text.now d
         × MatchOption told (AllFit (sizes_of ranges) d)
@@ -146,9 +148,9 @@ pub fn first_unfit(alloc: Global, text: &[u8], ranges: Ranges) -> Result<Option<
     ensures fault { IfErr result (λ e. IsUnread text.now e) }
 {
     let mut reader = Reader::new(text)?;
-    let outputs = reader.count(b"outputs", 65536)?;
+    let outputs = reader.count(b"outputs", MOST_OUTPUTS)?;
     let of_outputs = first_output(alloc, &mut reader, outputs, ranges.output_states)?;
-    let trees = reader.count(b"trees", 4000)?;
+    let trees = reader.count(b"trees", GREATEST_LIMIT)?;
     let of_trees = first_row(
         alloc,
         &mut reader,
@@ -158,7 +160,7 @@ pub fn first_unfit(alloc: Global, text: &[u8], ranges: Ranges) -> Result<Option<
         outputs,
         of_outputs,
     )?;
-    let hedges = reader.count(b"hedges", 4000)?;
+    let hedges = reader.count(b"hedges", GREATEST_LIMIT)?;
     let told = first_row(
         alloc,
         &mut reader,

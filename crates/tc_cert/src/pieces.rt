@@ -6,6 +6,7 @@ ghost use Rattle.std.specs.Str.Parse.{AllDigits, digits_value};
 ghost use Rattle.std.specs.List.Sorted.{IsStrictlySortedBy};
 ghost use Rattle.std.specs.Ordering.{nat_cmp};
 ghost use Rattle.std.specs.declared.cmp.Ordering.TheVariants.{Less};
+ghost use Rattle.tc_base.specs.declared.limits.TheConstants.{LONGEST_FILE};
 ghost use Rattle.tc_model.specs.CertificateLines as lines;
 ghost use Rattle.tc_model.specs.CertificateData.{pair_cmp};
 ghost use Rattle.tc_cert.specs.Pieces.{IsNumberAt, IsTwoAt, AreNumbersAt, AreChangesAt, ArePairsAt, FlagsAt, IsFrontAt, IsMissing, HasNoLeadingZero};
@@ -185,7 +186,7 @@ fn pair(bytes: &[u8]) -> Option<((u32, u32), &[u8])>
 
 /// The pairs at the front up to the end of the line, and the next line.
 pub(crate) fn pairs(alloc: Global, bytes: &[u8]) -> Result<(Pairs, &[u8]), PieceFault>
-    requires { length bytes.now ≤ 67108864 }
+    requires { length bytes.now ≤ LONGEST_FILE }
     ensures ok { IfOk result (λ r. ArePairsAt bytes.now r.0 r.1.now) }
     ensures no { IfErr result
         (IsMissing ((ps : List (ℕ × ℕ)) × (rest : List ℕ) × ArePairsAt bytes.now ps rest)) }

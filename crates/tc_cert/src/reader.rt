@@ -2,6 +2,7 @@
 ghost use Rattle.std.specs.declared.cmp.Ordering.TheVariants.{Less};
 ghost use Rattle.std.specs.Prelude.{◌≡◌, ◌↔◌, IsTrue, ◌≤◌, ◌<◌, ◌+◌, ◌∷◌, ◌++◌, [], true, ℕ, List, length, codes, IfOk, IfErr, IfSome, MatchOption, MatchResult};
 ghost use Rattle.std.specs.Option.{option_map};
+ghost use Rattle.tc_base.specs.declared.limits.TheConstants.{LONGEST_FILE};
 ghost use Rattle.tc_model.specs.CertificateLines as lines;
 ghost use Rattle.tc_model.specs.CertificateData.{ArePairs};
 ghost use Rattle.tc_cert.specs.Fields.{Fields, fields_of, IsFormedRow, IsNextRow, line_behind, row_in, row_line};
@@ -103,7 +104,7 @@ fn output_line<'t>(
     bytes: &'t [u8],
     before: Option<&Pairs>,
 ) -> Result<(Pairs, &'t [u8]), PieceFault>
-    requires short { length bytes.now ≤ 67108864 }
+    requires short { length bytes.now ≤ LONGEST_FILE }
     requires before { IfSome before (λ b. ArePairs b.now) }
     ensures ok { IfOk result (λ r. ArePairs r.0 × IsAfterLent before.entry r.0
         × (bytes.now ≡ lines.pairs_line r.0 ++ 10 ∷ r.1.now)) }
@@ -128,7 +129,7 @@ fn output_line<'t>(
 impl<'t> Reader<'t> {
     /// Reads the first line.
     pub(crate) fn new(text: &'t [u8]) -> Result<Reader<'t>, CertFault>
-        requires { length text.now ≤ 67108864 }
+        requires { length text.now ≤ LONGEST_FILE }
         ensures { MatchResult result (λ r. (v : Version) × Stands v text.now (begun v) r)
             (λ e. IsUnread text.now e) }
     {

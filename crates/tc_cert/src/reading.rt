@@ -1,5 +1,6 @@
 // Reading a certificate.
 ghost use Rattle.std.specs.Prelude.{◌≡◌, ◌≤◌, ◌<◌, ◌∷◌, ◌++◌, ℕ, List, [], length, IfOk, IfErr, OnOk, MatchOption, MatchResult, Some, None};
+ghost use Rattle.tc_base.specs.declared.limits.TheConstants.{LONGEST_FILE};
 ghost use Rattle.tc_cert.specs.Fields.{fields_of, last_of, tree_of, hedge_of};
 ghost use Rattle.tc_cert.specs.Fronts.{begun, in_outputs, in_trees, in_hedges};
 ghost use Rattle.tc_cert.specs.NextRows.{IsShort};
@@ -13,11 +14,12 @@ use crate::faults::CertFault;
 use crate::rows::{Kind, Row};
 use std::alloc::Global;
 use tc_base::NoMemory;
+use tc_base::limits::{GREATEST_LIMIT, MOST_OUTPUTS};
 use tc_model::{CertData, HedgeLine, HedgeLines, Numbers, PairLists, Pairs, TreeLine, TreeLines};
 
 /// The same numbers.
 fn numbers_of(alloc: Global, numbers: &[u32]) -> Result<Numbers, NoMemory>
-    requires { length numbers.now ≤ 67108864 }
+    requires { length numbers.now ≤ LONGEST_FILE }
     ensures { IfOk result (λ list. list ≡ numbers.now) }
 {
     let mut list = Numbers::new(alloc);
@@ -88,7 +90,7 @@ fn read_outputs(alloc: Global, reader: &mut Reader<'_>) -> Result<PairLists, Cer
         → MatchResult result (λ os. Stands v bytes (in_outputs v (length os) os) reader.new)
         (IsUnread bytes) }
 {
-    let count = reader.count(b"outputs", 65536)?;
+    let count = reader.count(b"outputs", MOST_OUTPUTS)?;
     let mut outputs = PairLists::new(alloc);
     while outputs.len() < count {
         let pairs = reader.output(alloc, last_output(&outputs))?;
@@ -104,7 +106,7 @@ fn read_trees(alloc: Global, reader: &mut Reader<'_>) -> Result<TreeLines, CertF
         → MatchResult result (λ ts. Stands v bytes (in_trees v os (length ts) ts) reader.new)
         (IsUnread bytes) }
 {
-    let count = reader.count(b"trees", 4000)?;
+    let count = reader.count(b"trees", GREATEST_LIMIT)?;
     let mut trees = TreeLines::new(alloc);
     let mut before = None;
     while trees.len() < count {
@@ -122,7 +124,7 @@ fn read_hedges(alloc: Global, reader: &mut Reader<'_>) -> Result<HedgeLines, Cer
         → MatchResult result (λ hs. Stands v bytes (in_hedges v os ts (length hs) hs) reader.new)
         (IsUnread bytes) }
 {
-    let count = reader.count(b"hedges", 4000)?;
+    let count = reader.count(b"hedges", GREATEST_LIMIT)?;
     let mut hedges = HedgeLines::new(alloc);
     let mut before = None;
     while hedges.len() < count {
@@ -138,7 +140,7 @@ fn read_hedges(alloc: Global, reader: &mut Reader<'_>) -> Result<HedgeLines, Cer
 /// The answer is `Form` exactly where the bytes are no certificate's text. A text of version 2 unfolds: ask
 /// [`first_unfit`](crate::first_unfit) first, which takes no more than the text.
 pub fn read_cert(alloc: Global, text: &[u8]) -> Result<CertData, CertFault>
-    requires { length text.now ≤ 67108864 }
+    requires { length text.now ≤ LONGEST_FILE }
     ensures ok { IfOk result (λ cert. CertificateText text.now cert) }
     ensures fault { IfErr result (λ e. IsUnread text.now e) }
 {

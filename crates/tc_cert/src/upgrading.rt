@@ -2,6 +2,7 @@
 // A text of version 2 is its own upgrade and goes out as it was read. Where no kind of line has two rows the
 // versions differ in their first line alone.
 ghost use Rattle.std.specs.Prelude.{◌≤◌, IfOk, IfErr, MatchBool, length};
+ghost use Rattle.tc_base.specs.declared.limits.TheConstants.{LONGEST_FILE};
 ghost use Rattle.tc_cert.specs.Readings.{BeginsByChanges, IsNotUpgraded, IsUpgraded};
 
 use crate::faults::UpgradeFault;
@@ -18,7 +19,7 @@ use std::alloc::Global;
 /// `Form` comes exactly where the bytes are no certificate's text, and `TooLong` exactly where they are one whose text
 /// in version 2 has more bytes.
 pub fn upgrade(alloc: Global, text: &[u8]) -> Result<Vec<u8>, UpgradeFault>
-    requires { length text.now ≤ 67108864 }
+    requires { length text.now ≤ LONGEST_FILE }
     ensures ok { IfOk result (λ out. IsUpgraded text.now out.items) }
     ensures fault { IfErr result (λ e. IsNotUpgraded text.now e) }
 {
@@ -41,7 +42,7 @@ fn is_by_changes(text: &[u8]) -> bool
 
 /// The text of version 2 itself.
 fn own(alloc: Global, text: &[u8]) -> Result<Vec<u8>, UpgradeFault>
-    requires short { length text.now ≤ 67108864 }
+    requires short { length text.now ≤ LONGEST_FILE }
     requires begins { BeginsByChanges text.now }
     ensures ok { IfOk result (λ out. IsUpgraded text.now out.items) }
     ensures fault { IfErr result (λ e. IsNotUpgraded text.now e) }
@@ -61,7 +62,7 @@ fn own(alloc: Global, text: &[u8]) -> Result<Vec<u8>, UpgradeFault>
 
 /// The text in version 2 of a text of version 1.
 fn rewritten(alloc: Global, text: &[u8]) -> Result<Vec<u8>, UpgradeFault>
-    requires { length text.now ≤ 67108864 }
+    requires { length text.now ≤ LONGEST_FILE }
     ensures ok { IfOk result (λ out. IsUpgraded text.now out.items) }
     ensures fault { IfErr result (λ e. IsNotUpgraded text.now e) }
 {

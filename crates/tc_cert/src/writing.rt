@@ -277,9 +277,9 @@ fn put_text(alloc: Global, text: &mut Text, cert: &CertData) -> Result<(), CertW
 /// `TooLong` comes only where the text has more bytes.
 pub fn write_cert(alloc: Global, cert: &CertData) -> Result<Vec<u8>, CertWriteFault>
     ensures text { IfOk result (λ text. text.items ≡ texts.text by_changes cert.now) }
-    ensures within { IfOk result (λ text. length text.items ≤ 67108864) }
+    ensures within { IfOk result (λ text. length text.items ≤ LONGEST_FILE) }
     ensures long { IfErr result
-        (λ fault. fault ≡ TooLong → 67108864 < length (texts.text by_changes cert.now)) }
+        (λ fault. fault ≡ TooLong → LONGEST_FILE < length (texts.text by_changes cert.now)) }
 {
     let mut text = Text::new(alloc, LONGEST_FILE);
     put_text(alloc, &mut text, cert)?;

@@ -1,5 +1,6 @@
 -- Laws of marked stylesheets and of the plain schema.
 use Rattle.std.specs.Prelude.{◌≡◌, ◌≤◌, ℕ, List, map, Contains, option_map}
+use Rattle.tc_base.specs.declared.limits.TheConstants.{MOST_OUTPUT_STATES}
 use Rattle.tc_model.specs.Grammars.{Grammar, IsGrammar}
 use Rattle.tc_model.specs.States.{output, state_count}
 use Rattle.tc_model.specs.SimplifiesCounts.{IsWithinCounts}
@@ -27,7 +28,7 @@ IsPlainLawful = IsGrammar plain_schema
 
 -- and within all limits of schemas: of nodes, of depth, of element patterns and of states
 abbrev pub IsPlainSmall : Type 0
-IsPlainSmall = IsWithinCounts plain_schema × (state_count plain_schema output ≤ 256)
+IsPlainSmall = IsWithinCounts plain_schema × (state_count plain_schema output ≤ MOST_OUTPUT_STATES)
 
 -- the stylesheets in which one spot of a stylesheet is marked, or another, have the same symbols, with any input
 abbrev pub HaveSameSymbols : Type 0

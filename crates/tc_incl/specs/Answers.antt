@@ -1,5 +1,6 @@
 -- What is answered of two schemas: that the first is included in the second, with how many rows there are; or a least difference; and why nothing is told.
 use Rattle.std.specs.Prelude.{◌<◌, ◌≤◌, ℕ}
+use Rattle.tc_base.specs.declared.limits.TheConstants.{MOST_SHOWN_NODES}
 use Rattle.tc_model.specs.Trees.{Trees, none, node_count}
 use Rattle.tc_model.specs.Views.{before}
 use Rattle.tc_rows.specs.Counts.{Counts, Pass}
@@ -29,13 +30,13 @@ module _ (x : Schemas) where
     pub keeps : KeepsCounts most
     pub least : IsLeastDifference x.first x.second doc
     pub plain : ArePlain x doc
-    pub few : node_count doc ≤ 2000
+    pub few : node_count doc ≤ MOST_SHOWN_NODES
 
   -- there are differences, and all have more nodes
   pub record IsFarDifferent (most : ℕ) : Type 0 where
     pub keeps : KeepsCounts most
     pub some : (doc : Trees) × IsDifference x.first x.second doc
-    pub far : (doc : Trees) → IsDifference x.first x.second doc → 2000 < node_count doc
+    pub far : (doc : Trees) → IsDifference x.first x.second doc → MOST_SHOWN_NODES < node_count doc
 
   abbrev pub IsAnswer : ℕ → Cover → Type 0
   IsAnswer most (Included trees hedges) = IsIncludedWith most trees hedges

@@ -8,9 +8,10 @@ use crate::Mat;
 use indexmap::IndexSet;
 use std::alloc::{AllocError, AllocFailed, Global};
 use std::marker::Model;
+use tc_base::limits::MOST_OUTPUTS;
 
 /// The most matrices that a pool holds.
-const MOST: usize = 65536;
+const MOST: usize = MOST_OUTPUTS as usize;
 
 /// The number of a matrix in its pool, counted from 0 in the order in which they were first held.
 #[derive(Clone, Copy, Debug, PartialEq, Eq)]
@@ -55,6 +56,7 @@ pub struct Pool {
 
 impl Model for Pool {
     ghost use Rattle.std.specs.Prelude.{◌≡◌, ◌≤◌, length, All};
+    ghost use Rattle.tc_base.specs.declared.limits.TheConstants.{MOST_OUTPUTS};
     ghost use Rattle.tc_mat.specs.Matrix.{IsMatrix};
     ghost use Rattle.tc_mat.specs.Held.{Held};
 
@@ -62,7 +64,7 @@ impl Model for Pool {
 
     ghost view = { λ p. record { size = p.n; matrices = p.keys.keys } };
 
-    ghost invariant = { λ p. (length p.keys.keys ≤ 65536) × All (λ m. (m.size ≡ p.n) × IsMatrix m) p.keys.keys };
+    ghost invariant = { λ p. (length p.keys.keys ≤ MOST_OUTPUTS) × All (λ m. (m.size ≡ p.n) × IsMatrix m) p.keys.keys };
 }
 
 impl Pool {
@@ -87,7 +89,7 @@ impl Pool {
     /// How many matrices it holds.
     pub fn len(&self) -> u32
         ensures count { result ≡ length self.now.matrices }
-        ensures bound { length self.now.matrices ≤ 65536 }
+        ensures bound { length self.now.matrices ≤ MOST_OUTPUTS }
         ensures different { AreDifferent self.now }
         ensures matrices { AreMatrices self.now }
     {
@@ -127,11 +129,11 @@ impl Pool {
         ensures absent { ¬ IsHeld self.old mat.now → IfOk result
             (λ id. (id.0 ≡ length self.old.matrices)
             × (self.new ≡ record self.old { matrices = self.old.matrices ++ mat.now ∷ [] })) }
-        ensures bound { length self.new.matrices ≤ 65536 }
+        ensures bound { length self.new.matrices ≤ MOST_OUTPUTS }
         ensures err { OnErr result (self.new ≡ self.old) }
         ensures full { IsErrOf result PoolFault.PoolFull
-            → (length self.old.matrices ≡ 65536) × ¬ IsHeld self.old mat.now }
-        ensures refused { length self.old.matrices ≡ 65536 → ¬ IsHeld self.old mat.now
+            → (length self.old.matrices ≡ MOST_OUTPUTS) × ¬ IsHeld self.old mat.now }
+        ensures refused { length self.old.matrices ≡ MOST_OUTPUTS → ¬ IsHeld self.old mat.now
             → IsErrOf result PoolFault.PoolFull }
     {
         if let Some(id) = self.find(mat) {

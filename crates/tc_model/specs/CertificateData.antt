@@ -4,6 +4,7 @@ use Rattle.std.specs.Ordering.{nat_cmp, ordering_then}
 use Rattle.std.specs.declared.cmp.Ordering.{Ordering}
 use Rattle.std.specs.Cmp.Lexicographic.{slice_cmp}
 use Rattle.std.specs.List.Sorted.{IsStrictlySortedBy}
+use Rattle.tc_base.specs.declared.limits.TheConstants.{GREATEST_LIMIT, MOST_OUTPUTS}
 use Rattle.tc_model.specs.declared.lists.TreeLine.{TreeLine}
 use Rattle.tc_model.specs.declared.lists.HedgeLine.{HedgeLine}
 use Rattle.tc_model.specs.declared.lists.CertData.{CertData}
@@ -42,9 +43,9 @@ abbrev pub AreOrdered : List (List ℕ) → Type 0
 AreOrdered lines = IsStrictlySortedBy (slice_cmp nat_cmp) lines
 
 pub record IsFormed (d : CertData) : Type 0 where
-  pub few_outputs : length d.outputs ≤ 65536
-  pub few_trees : length d.trees ≤ 4000
-  pub few_hedges : length d.hedges ≤ 4000
+  pub few_outputs : length d.outputs ≤ MOST_OUTPUTS
+  pub few_trees : length d.trees ≤ GREATEST_LIMIT
+  pub few_hedges : length d.hedges ≤ GREATEST_LIMIT
   pub outputs : All ArePairs d.outputs
   pub trees : All IsFormedTree d.trees
   pub hedges : All IsFormedHedge d.hedges

@@ -4,6 +4,7 @@
 -- is this project's choice.
 -- A text without definitions is a schema. A text that is one pattern defines `start` at place 0.
 use Rattle.std.specs.Prelude.{Bool, false, ◌≡◌, ℕ, suc, ◌+◌, List, [], ◌∷◌, ◌++◌, length, Some, codes}
+use Rattle.tc_base.specs.declared.limits.TheConstants.{DEEPEST_NESTING}
 use Rattle.tc_model.specs.Names.{IsChars}
 use Rattle.tc_model.specs.RawTrees.{Bound}
 use Rattle.tc_model.specs.XmlText.{after_mark}
@@ -59,7 +60,7 @@ pub record Spells (others : Bool) (deepest : ℕ) (bytes : List ℕ) (syntax : S
 
 -- how deep braces and parentheses may stand within one another
 abbrev pub deepest_nesting : ℕ
-deepest_nesting = 2000
+deepest_nesting = DEEPEST_NESTING
 
 abbrev pub CompactSyntax : List ℕ → Syntax → Type 0
 CompactSyntax bytes syntax = Spells false deepest_nesting bytes syntax

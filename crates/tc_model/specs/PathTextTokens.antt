@@ -1,6 +1,7 @@
 -- The tokens of paths, patterns and tests (XPath 1.0, 3.7), in UTF-8.
 use Rattle.std.specs.Prelude.{◌≡◌, ℕ, ◌+◌, ◌-◌, ◌<◌, max, Bool, false, ◌&&◌, ◌||◌, ◌==◌, List, [], ◌∷◌, Option, None, Some, IsTrue, IsFalse, drop, if◌then◌else◌}
 use Rattle.std.specs.List.{prefix_len}
+use Rattle.tc_base.specs.declared.limits.TheConstants.{DEEPEST_NESTING}
 use Rattle.tc_base.specs.Characters.{is_between}
 use Rattle.tc_model.specs.XmlTextBytes.{after_white, LiteralAt}
 use Rattle.tc_model.specs.XmlTextNames.{NcNameAt, QualifiedName, QNameAt}
@@ -116,7 +117,7 @@ most_open before (t ∷ ts) = max before (most_open (open_behind before t) ts)
 
 -- how deep parentheses and brackets together may stand within one another
 abbrev pub deepest_nesting : ℕ
-deepest_nesting = 2000
+deepest_nesting = DEEPEST_NESTING
 
 abbrev pub IsTooDeep : List Token → Type 0
 IsTooDeep ts = deepest_nesting < most_open 0 ts

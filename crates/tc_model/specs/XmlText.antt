@@ -2,6 +2,7 @@
 -- XmlTextNames, XmlTextReferences, XmlTextMisc, XmlTextScopes and XmlTextContent have the productions that it rests on.
 -- A relation `PhraseAt bs value after` says that this phrase stands at the front of the bytes, what it means, and what follows it.
 use Rattle.std.specs.Prelude.{◌≡◌, ℕ, Bool, false, List, [], ◌∷◌, drop, length, if◌then◌else◌}
+use Rattle.tc_base.specs.declared.limits.TheConstants.{DEEPEST_NESTING}
 use Rattle.tc_model.specs.Names.{IsChars}
 use Rattle.tc_model.specs.RawTrees.{RawTrees, none}
 use Rattle.tc_model.specs.XmlTextBytes.{begins_with}
@@ -31,7 +32,7 @@ pub record Reads (others : Bool) (deepest : ℕ) (bytes : List ℕ) (tree : RawT
 
 -- how deep elements may stand within one another
 abbrev pub deepest_element : ℕ
-deepest_element = 2000
+deepest_element = DEEPEST_NESTING
 
 abbrev pub XmlText : List ℕ → RawTrees → Type 0
 XmlText bytes tree = Reads false deepest_element bytes tree

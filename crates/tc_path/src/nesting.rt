@@ -7,9 +7,10 @@ ghost use Rattle.tc_path.specs.Faults.{IsUnread};
 use crate::PathFault;
 use crate::token::{Mark, Token, tokens};
 use bumpalo::Bump;
+use tc_base::limits::DEEPEST_NESTING;
 
 /// How deep parentheses and brackets together may stand within one another.
-const DEEPEST: usize = 2000;
+const DEEPEST: usize = DEEPEST_NESTING as usize;
 
 /// How many parentheses and brackets are open behind this token.
 fn open_behind(before: usize, next: &Token<'_>) -> usize

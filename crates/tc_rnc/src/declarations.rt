@@ -1,5 +1,6 @@
 // Declarations of prefixes (OASIS, RELAX NG Compact Syntax, 2002: decl).
 ghost use Rattle.std.specs.Prelude.{◌≢◌, ℕ, List, [], Bool, None, Some, IfOk, IfErr, IsTrue, MatchBool, MatchOption, codes};
+ghost use Rattle.tc_base.specs.declared.limits.TheConstants.{DEEPEST_NESTING};
 ghost use Rattle.tc_model.specs.CompactSyntaxNames as names;
 ghost use Rattle.tc_model.specs.CompactSyntaxStops as stops;
 ghost use Rattle.tc_model.specs.CompactSyntaxUnread as unread;
@@ -309,7 +310,8 @@ pub fn declarations<'b, 's, 't>(
     ensures all { IfOk result (λ r. schemas.LacksDeclaration (seen.tokens r.now)) }
     ensures no { IfErr result
         (Refuses
-        (stops.SchemaStops (seen.end end) (scope_of scope.old) 2000 (seen.tokens tokens.now))) }
+        (stops.SchemaStops (seen.end end) (scope_of scope.old) DEEPEST_NESTING
+        (seen.tokens tokens.now))) }
 {
     let mut rest = tokens.split_at(0).1;
     while begins_declaration(rest) {

@@ -1,5 +1,6 @@
 // All tokens of a text.
 ghost use Rattle.std.specs.Prelude.{◌≡◌, ◌+◌, ◌≤◌, ◌++◌, ◌∷◌, [], ℕ, List, None, Some, length, IfOk, OnOk, MatchBool, MatchOption};
+ghost use Rattle.tc_base.specs.declared.limits.TheConstants.{LONGEST_FILE};
 ghost use Rattle.tc_model.specs.CompactSyntaxRefused as refused;
 ghost use Rattle.tc_model.specs.CompactSyntaxTokens as model;
 ghost use Rattle.tc_model.specs.XmlText as xml_text;
@@ -38,7 +39,7 @@ fn after_byte_order_mark(text: &str) -> &str
 /// Where the escape of a character begins in a literal that isn't closed on its line.
 fn unclosed_escape(total: usize, text: &str) -> Option<Place>
     requires within { length text.now ≤ total }
-    requires bounded { total ≤ 67108864 }
+    requires bounded { total ≤ LONGEST_FILE }
     ensures { MatchOption result (refused.unclosed_escape total text.now ≡ None)
         (λ p. refused.unclosed_escape total text.now ≡ Some p.0) }
 {
@@ -51,7 +52,7 @@ fn unclosed_escape(total: usize, text: &str) -> Option<Place>
 /// The word at the front as a token of a text of so many bytes, and what follows it.
 fn token_at(total: usize, text: &str) -> Option<(Token<'_>, &str)>
     requires within { length text.now ≤ total }
-    requires bounded { total ≤ 67108864 }
+    requires bounded { total ≤ LONGEST_FILE }
     ensures { MatchOption result
         ((word : model.Word) (after : List ℕ) → model.WordAt text.now word after → ⊥)
         (λ r. model.WordAt text.now (seen.token r.0).word r.1.now
@@ -84,7 +85,7 @@ fn tokens_at<'t, 'b>(
     total: usize,
 ) -> Result<(Vec<Token<'t>, &'b Bump>, &'t str), AllocError>
     requires within { length text.now ≤ total }
-    requires bounded { total ≤ 67108864 }
+    requires bounded { total ≤ LONGEST_FILE }
     ensures { IfOk result (λ r. ReadsAllTokens total text.now (seen.tokens r.0.items) r.1.now) }
 {
     // Most tokens have several bytes, each at least one.
@@ -107,7 +108,7 @@ fn is_whole(rest: &str, text: &str, bytes: &[u8]) -> bool
 
 /// All tokens of a text.
 pub fn tokens_of<'t, 'b>(arena: &'b Bump, bytes: &'t [u8]) -> Result<Tokens<'t, 'b>, AllocError>
-    requires { length bytes.now ≤ 67108864 }
+    requires { length bytes.now ≤ LONGEST_FILE }
     ensures { IfOk result (λ r. Lexed bytes.now (seen.tokens r.list.items) r.end r.whole) }
 {
     let text = characters(bytes);

@@ -3,6 +3,7 @@
 // handed back, as a phrase's clause relates the two, so that looking ahead takes nothing back. What nests is
 // handed on as how much deeper it may go.
 ghost use Rattle.std.specs.Prelude.{◌≤◌, length, IfErr, IfOk};
+ghost use Rattle.tc_base.specs.declared.limits.TheConstants.{LONGEST_FILE};
 ghost use Rattle.tc_model.specs.CompactSyntax.{CompactSyntax};
 ghost use Rattle.tc_rnc.specs.Texts.{IsReadOrRefused};
 ghost use Rattle.tc_rnc.specs.Answers.{Excluded, Stands};
@@ -23,7 +24,7 @@ use tc_base::Place;
 /// `Unsupported` at a construct that is not read, `TooDeep` where a brace or parenthesis opens within 2,000 others,
 /// `Malformed` where the text is no schema for another cause, and `NoMemory`.
 pub fn read_rnc<'b>(arena: &'b Bump, text: &[u8]) -> Result<Syntax<'b>, RncFault>
-    requires { length text.now ≤ 67108864 }
+    requires { length text.now ≤ LONGEST_FILE }
     ensures ok { IfOk result (λ s. CompactSyntax text.now (seen.syntax s)) }
     ensures no { IfErr result (λ e. Excluded e text.now) }
     ensures stands { IfErr result (λ e. Stands e text.now) }

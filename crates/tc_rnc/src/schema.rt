@@ -22,10 +22,8 @@ use crate::syntax::{Def, Joins, SPat};
 use crate::tokens::{End, Token};
 use bumpalo::Bump;
 use bumpalo::collections::into_bump_slice;
+use tc_base::limits::DEEPEST_NESTING;
 use tc_base::{Place, Why};
-
-/// How deep braces and parentheses may stand within one another.
-const DEEPEST: u32 = 2000;
 
 /// Whether the tokens begin with definitions and not with a pattern, as far as one can tell.
 fn is_definitions(tokens: &[Token<'_>]) -> bool
@@ -87,14 +85,15 @@ impl<'b> Parser<'b> {
     fn whole_pattern<'s, 't>(&self, tokens: &'s [Token<'t>]) -> Result<&'b [Def<'b>], RncFault>
         requires { IsPatternAlone (seen.tokens tokens.now) }
         ensures ok { IfOk result
-            (λ r. model.SchemaAt false (scope_of self.now.scope) 2000 (seen.tokens tokens.now)
+            (λ r. model.SchemaAt false (scope_of self.now.scope) DEEPEST_NESTING
+            (seen.tokens tokens.now)
             (map seen.definition r.now)) }
         ensures no { IfErr result
             (Refuses
-            (stops.SchemaStops (seen.end self.now.end) (scope_of self.now.scope) 2000
+            (stops.SchemaStops (seen.end self.now.end) (scope_of self.now.scope) DEEPEST_NESTING
             (seen.tokens tokens.now))) }
     {
-        let (body, rest) = self.pattern(tokens, DEEPEST)?;
+        let (body, rest) = self.pattern(tokens, DEEPEST_NESTING)?;
         if let Some(_) = first_of(rest) {
             return Err(unexpected(rest, self.end));
         }
@@ -105,15 +104,16 @@ impl<'b> Parser<'b> {
     fn whole_definitions<'s, 't>(&self, tokens: &'s [Token<'t>]) -> Result<&'b [Def<'b>], RncFault>
         requires { stops.BeginsDefinitions (seen.tokens tokens.now) }
         ensures ok { IfOk result
-            (λ r. model.SchemaAt false (scope_of self.now.scope) 2000 (seen.tokens tokens.now)
+            (λ r. model.SchemaAt false (scope_of self.now.scope) DEEPEST_NESTING
+            (seen.tokens tokens.now)
             (map seen.definition r.now)) }
         ensures no { IfErr result
             (Refuses
-            (stops.SchemaStops (seen.end self.now.end) (scope_of self.now.scope) 2000
+            (stops.SchemaStops (seen.end self.now.end) (scope_of self.now.scope) DEEPEST_NESTING
             (seen.tokens tokens.now))) }
     {
         let mut defs = Vec::new(self.arena);
-        let rest = self.definitions(&mut defs, tokens, DEEPEST)?;
+        let rest = self.definitions(&mut defs, tokens, DEEPEST_NESTING)?;
         if let Some(_) = first_of(rest) {
             return Err(unexpected(rest, self.end));
         }
@@ -128,15 +128,15 @@ impl<'b> Parser<'b> {
     ) -> Result<&'b [Def<'b>], RncFault>
         requires { names.IsWord (codes "grammar") (seen.token word.now) }
         ensures ok { IfOk result
-            (λ r. model.SchemaAt false (scope_of self.now.scope) 2000
+            (λ r. model.SchemaAt false (scope_of self.now.scope) DEEPEST_NESTING
             (seen.token word.now ∷ seen.tokens rest.now) (map seen.definition r.now)) }
         ensures no { IfErr result
             (Refuses
-            (stops.SchemaStops (seen.end self.now.end) (scope_of self.now.scope) 2000
+            (stops.SchemaStops (seen.end self.now.end) (scope_of self.now.scope) DEEPEST_NESTING
             (seen.token word.now ∷ seen.tokens rest.now))) }
     {
         let mut defs = Vec::new(self.arena);
-        let after = self.braced_definitions(&mut defs, rest, DEEPEST)?;
+        let after = self.braced_definitions(&mut defs, rest, DEEPEST_NESTING)?;
         if goes_on(after) {
             return Err(RncFault::Unsupported(word.place, Why::NestedGrammar));
         }
@@ -150,11 +150,12 @@ impl<'b> Parser<'b> {
     fn top_level_body<'s, 't>(&self, tokens: &'s [Token<'t>]) -> Result<&'b [Def<'b>], RncFault>
         requires { schemas.LacksDeclaration (seen.tokens tokens.now) }
         ensures ok { IfOk result
-            (λ r. model.SchemaAt false (scope_of self.now.scope) 2000 (seen.tokens tokens.now)
+            (λ r. model.SchemaAt false (scope_of self.now.scope) DEEPEST_NESTING
+            (seen.tokens tokens.now)
             (map seen.definition r.now)) }
         ensures no { IfErr result
             (Refuses
-            (stops.SchemaStops (seen.end self.now.end) (scope_of self.now.scope) 2000
+            (stops.SchemaStops (seen.end self.now.end) (scope_of self.now.scope) DEEPEST_NESTING
             (seen.tokens tokens.now))) }
     {
         if let Some((word, rest)) = grammar_at(tokens) {
@@ -174,10 +175,11 @@ pub fn top_level<'b, 's, 't>(
     end: End,
 ) -> Result<&'b [Def<'b>], RncFault>
     ensures ok { IfOk result
-        (λ r. model.SchemaAt false first_scope 2000 (seen.tokens tokens.now)
+        (λ r. model.SchemaAt false first_scope DEEPEST_NESTING (seen.tokens tokens.now)
         (map seen.definition r.now)) }
     ensures no { IfErr result
-        (Refuses (stops.SchemaStops (seen.end end) first_scope 2000 (seen.tokens tokens.now))) }
+        (Refuses
+        (stops.SchemaStops (seen.end end) first_scope DEEPEST_NESTING (seen.tokens tokens.now))) }
 {
     let mut scope = Scope::first(arena)?;
     let rest = declarations(arena, &mut scope, tokens, end)?;

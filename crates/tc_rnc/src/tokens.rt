@@ -3,6 +3,7 @@
 // once for one at each byte, of which only what is used becomes resident. A prefix and its local name are
 // one piece of the text, cut at the colon where they are looked up.
 ghost use Rattle.std.specs.Prelude.{◌≡◌, ◌+◌, ◌≤◌, ℕ, List, None, Some, length, MatchBool, MatchOption, IfSome};
+ghost use Rattle.tc_base.specs.declared.limits.TheConstants.{LONGEST_FILE};
 ghost use Rattle.tc_model.specs.CompactSyntaxNames as names;
 ghost use Rattle.tc_rnc.specs.Extents.{extent};
 
@@ -32,7 +33,7 @@ pub enum Word<'t> {
 pub struct Token<'t> {
     pub word: Word<'t>,
     pub place: Place,
-    ghost within: { place.0 + extent word ≤ 67108864 },
+    ghost within: { place.0 + extent word ≤ LONGEST_FILE },
 }
 
 /// Where the tokens end, and where the escape of a character stands in a literal that isn't closed there.
@@ -111,7 +112,8 @@ impl<'t> Token<'t> {
     pub fn quoted(&self) -> Option<(u32, &'t str)>
         ensures text { MatchOption result (quoted_text (seen.word self.now.word) ≡ None)
             (λ r. quoted_text (seen.word self.now.word) ≡ Some (r.0, r.1.now)) }
-        ensures within { IfSome result (λ r. self.now.place.0 + r.0 + length r.1.now ≤ 67108864) }
+        ensures within { IfSome result
+            (λ r. self.now.place.0 + r.0 + length r.1.now ≤ LONGEST_FILE) }
     {
         match self.word {
             Word::Literal(value) => Some((1, value)),

@@ -1,5 +1,6 @@
 -- What a value of rules tells: its stylesheet, and the states of its paths by number.
 use Rattle.std.specs.Prelude.{◌≡◌, ◌≤◌, ◌+◌, ℕ, List, [], length, map, sum, take, Bool, Some, slice_get, get_or, Contains}
+use Rattle.tc_base.specs.declared.limits.TheConstants.{MOST_ANCESTORS, MOST_PREDICATES, MOST_SELECTS}
 use Rattle.tc_model.specs.Grammars.{Grammar}
 use Rattle.tc_model.specs.Sheets.{Test, Body, Sheet}
 use Rattle.tc_model.specs.WellFormed.{IsSheet, ForEach, eaches_of}
@@ -38,15 +39,15 @@ pub record IsTold (symbols : List Mention) (t : RulesView) : Type 0 where
   pub well_formed : IsSheet t.sheet
   pub symbols_are : AreSymbolsWith symbols t.sheet
   pub predicates_are : t.predicates ≡ predicates_of t.sheet
-  pub few_predicates : length t.predicates ≤ 6
+  pub few_predicates : length t.predicates ≤ MOST_PREDICATES
   pub eaches_are : (f : ForEach) → Contains (eaches_of t.sheet) f → slice_get t.eaches f.number ≡ Some f.body
   pub all_eaches : length t.eaches ≡ t.sheet.eaches
   pub ancestors : IsGraphOf symbols (predicates_of t.sheet) all_count (path_of_rules t.sheet.rules) t.ancestors
-  pub few_ancestors : length t.ancestors.states ≤ 64
+  pub few_ancestors : length t.ancestors.states ≤ MOST_ANCESTORS
   pub selects : (i : ℕ) (b : PathUse) → slice_get (blocks_of t.sheet) i ≡ Some b
       → (g : Graph) × (slice_get t.selects i ≡ Some g) × IsGraphOf symbols (predicates_of t.sheet) some_item b.path g
   pub all_selects : length t.selects ≡ length (blocks_of t.sheet)
-  pub few_selects : select_count t ≤ 4096
+  pub few_selects : select_count t ≤ MOST_SELECTS
 
 -- a select state: its number goes on through all moves and then through all looks
 pub record IsStateOf (t : RulesView) (k : ℕ) (b : PathUse) (x : State) : Type 0 where

@@ -1,6 +1,7 @@
 // What a stylesheet has, each in its order: predicates, moves, looks, for-eaches, and the rules of each mode.
 ghost use Rattle.std.specs.Prelude.{◌≡◌, ◌≢◌, ◌<◌, ◌++◌, ◌∷◌, ℕ, [], Some, length, map, flat_map, get_or, slice_get, Contains, IfOk, OnOk, IfErr, ◌≤◌};
 ghost use Rattle.std.specs.List.{AllByRecursion};
+ghost use Rattle.tc_base.specs.declared.limits.TheConstants.{MOST_PREDICATES};
 ghost use Rattle.tc_model.specs.Meaning.{all_children};
 ghost use Rattle.tc_model.specs.Numbered.{numbers_below};
 ghost use Rattle.tc_model.specs.Numberings as n;
@@ -87,7 +88,7 @@ pub(crate) fn all_predicates<'b>(
 ) -> Result<Vec<&'b Test<'b>>, RulesFault>
     ensures predicates { IfOk result (λ v. (x : s.Sheet) → usages used.now ≡ usages_of x
         → predicates v.items ≡ n.predicates_of x) }
-    ensures few { IfOk result (λ v. length v.items ≤ 6) }
+    ensures few { IfOk result (λ v. length v.items ≤ MOST_PREDICATES) }
     ensures cause { IfErr result (λ e. (x : s.Sheet) → usages used.now ≡ usages_of x
         → IsPredicatesCause (n.predicates_of x) e) }
 {

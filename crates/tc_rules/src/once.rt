@@ -23,7 +23,7 @@ pub(crate) fn predicates_once<'b>(
 ) -> Result<Vec<&'b Test<'b>>, RulesFault>
     ensures kept { IfOk result (λ v. predicates v.items
         ≡ each_once same.same_test (predicates found.now)) }
-    ensures few { IfOk result (λ v. length v.items ≤ 6) }
+    ensures few { IfOk result (λ v. length v.items ≤ MOST_PREDICATES) }
     ensures cause { IfErr result (λ e. IsPredicatesCause
         (each_once same.same_test (predicates found.now)) e) }
 {
@@ -36,10 +36,10 @@ pub(crate) fn predicates_once<'b>(
 
 /// One more predicate, unless one of those kept is the same.
 fn keep_predicate<'b>(kept: &mut Vec<&'b Test<'b>>, test: &'b Test<'b>) -> Result<(), RulesFault>
-    requires few { length kept.old.items ≤ 6 }
+    requires few { length kept.old.items ≤ MOST_PREDICATES }
     ensures kept { OnOk result (predicates kept.new.items
         ≡ put_once same.same_test (predicates kept.old.items) (see.test test.now)) }
-    ensures few { OnOk result (length kept.new.items ≤ 6) }
+    ensures few { OnOk result (length kept.new.items ≤ MOST_PREDICATES) }
     ensures cause { IfErr result (λ e. IsPredicatesCause
         (put_once same.same_test (predicates kept.old.items) (see.test test.now)) e) }
 {

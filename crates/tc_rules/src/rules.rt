@@ -1,5 +1,6 @@
 // Which rule fits a node, and what paths select, by the numbers of states.
 ghost use Rattle.std.specs.Prelude.{◌≡◌, ◌<◌, ◌≤◌, ◌+◌, ◌^◌, ◌++◌, ◌∷◌, ℕ, [], length, map, get_or, List, true, Some, None, slice_get, option_map, if◌then◌else◌, IfOk, OnOk, IfErr, MatchOption, Contains};
+ghost use Rattle.tc_base.specs.declared.limits.TheConstants.{MOST_PREDICATES};
 ghost use Rattle.tc_model.specs.Numbered.{numbers_below};
 ghost use Rattle.tc_model.specs.Chains.{top};
 ghost use Rattle.tc_model.specs.Letters as l;
@@ -146,7 +147,7 @@ impl<'b> Rules<'b> {
         requires used { usages used.now ≡ usages_of (see.sheet sheet.now) }
         requires predicates { predicates source.predicates.items
             ≡ n.predicates_of (see.sheet sheet.now) }
-        requires few { length source.predicates.items ≤ 6 }
+        requires few { length source.predicates.items ≤ MOST_PREDICATES }
         requires sets { source.sets ≡ 2 ^ length source.predicates.items }
         ensures sheet { IfOk result (λ r. (told r).sheet ≡ see.sheet sheet.now) }
         ensures rules { (symbols : List Mention) → IsSourceOf symbols source.entry
@@ -510,7 +511,7 @@ fn source_of<'a, 'b>(
     ensures source { IfOk result (λ y. IsSourceOf alphabet.now y) }
     ensures predicates { IfOk result (λ y. (x : s.Sheet) → usages used.now ≡ usages_of x
         → predicates y.predicates.items ≡ n.predicates_of x) }
-    ensures few { IfOk result (λ y. length y.predicates.items ≤ 6) }
+    ensures few { IfOk result (λ y. length y.predicates.items ≤ MOST_PREDICATES) }
     ensures cause { IfErr result
         (λ e. (x : s.Sheet) → usages used.now ≡ usages_of x → IsCause alphabet.now x e) }
 {
@@ -588,7 +589,7 @@ fn selected_of(
         → AreGraphs symbols (predicates source.now.predicates.items)
         (map (λ m. see.path m.path.now) moves.now ++ see_paths looks.now)
         (see_graphs t.graphs.items)) }
-    ensures few { IfOk result (λ t. count_states (see_graphs t.graphs.items) ≤ 4096) }
+    ensures few { IfOk result (λ t. count_states (see_graphs t.graphs.items) ≤ MOST_SELECTS) }
     ensures ending { IfOk result (λ t. AllKeepEndings t.graphs.items) }
     ensures selects { IfOk result
         (λ t. t.selects.items ≡ selects_from 0 (see_graphs t.graphs.items)) }
@@ -611,7 +612,7 @@ fn selected_of(
 
 /// How many sets of so many predicates there are.
 fn sets_of(predicates: usize) -> u32
-    requires { predicates ≤ 6 }
+    requires { predicates ≤ MOST_PREDICATES }
     ensures { result ≡ 2 ^ predicates }
 {
     1 << predicates
@@ -624,7 +625,7 @@ fn ancestors_of(source: &Source<'_, '_>, sheet: &Sheet<'_>) -> Result<Graph, Rul
         (λ g. (symbols : List Mention) → IsSourceOf symbols source.now
         → IsGraphOf symbols (predicates source.now.predicates.items) all_count
         (path_of_rules (see.sheet sheet.now).rules) (see_graph g)) }
-    ensures few { IfOk result (λ g. length (see_graph g).states ≤ 64) }
+    ensures few { IfOk result (λ g. length (see_graph g).states ≤ MOST_ANCESTORS) }
     ensures cause { IfErr result
         (λ e. IsAncestorCause source.now (path_of_rules (see.sheet sheet.now).rules) e) }
 {
@@ -664,7 +665,7 @@ fn select_graphs(
         (λ v. (symbols : List Mention) → IsSourceOf symbols source.now
         → AreGraphs symbols (predicates source.now.predicates.items)
         (map (λ m. see.path m.path.now) moves.now ++ see_paths looks.now) (see_graphs v.items)) }
-    ensures few { IfOk result (λ v. count_states (see_graphs v.items) ≤ 4096) }
+    ensures few { IfOk result (λ v. count_states (see_graphs v.items) ≤ MOST_SELECTS) }
     ensures ending { IfOk result (λ v. AllKeepEndings v.items) }
     ensures cause { IfErr result
         (λ e. IsSelectCause source.now
@@ -681,7 +682,7 @@ fn graphs_of(source: &Source<'_, '_>, paths: &[&Path<'_>]) -> Result<Vec<Graph>,
         (λ v. (symbols : List Mention) → IsSourceOf symbols source.now
         → AreGraphs symbols (predicates source.now.predicates.items) (see_paths paths.now)
         (see_graphs v.items)) }
-    ensures few { IfOk result (λ v. count_states (see_graphs v.items) ≤ 4096) }
+    ensures few { IfOk result (λ v. count_states (see_graphs v.items) ≤ MOST_SELECTS) }
     ensures ending { IfOk result (λ v. AllKeepEndings v.items) }
     ensures cause { IfErr result (λ e. IsSelectCause source.now (see_paths paths.now) e) }
 {
@@ -707,7 +708,7 @@ fn keep_graph(graphs: &mut Vec<Graph>, graph: Graph) -> Result<(), NoMemory>
 /// The graph of one more path, of at most so many states.
 fn next_graph(source: &Source<'_, '_>, path: &Path<'_>, left: usize) -> Result<Graph, RulesFault>
     requires sets { source.now.sets ≡ 2 ^ length source.now.predicates.items }
-    requires few { left ≤ 4096 }
+    requires few { left ≤ MOST_SELECTS }
     ensures graph { IfOk result
         (λ g. (symbols : List Mention) → IsSourceOf symbols source.now
         → IsGraphOf symbols (predicates source.now.predicates.items) some_item (see.path path.now)
@@ -736,7 +737,7 @@ fn add_selects(selects: &mut Vec<Select>, graph: usize, count: u32) -> Result<()
 
 /// Where each select state stands.
 fn selects_of(alloc: Global, graphs: &[Graph]) -> Result<Vec<Select>, NoMemory>
-    requires { count_states (see_graphs graphs.now) ≤ 4096 }
+    requires { count_states (see_graphs graphs.now) ≤ MOST_SELECTS }
     ensures { IfOk result (λ v. v.items ≡ selects_from 0 (see_graphs graphs.now)) }
 {
     let mut selects = Vec::new(alloc);
@@ -748,7 +749,7 @@ fn selects_of(alloc: Global, graphs: &[Graph]) -> Result<Vec<Select>, NoMemory>
 
 /// How many select states stand before those of each graph, and in all.
 fn starts_of(alloc: Global, graphs: &[Graph]) -> Result<Vec<u32>, NoMemory>
-    requires { count_states (see_graphs graphs.now) ≤ 4096 }
+    requires { count_states (see_graphs graphs.now) ≤ MOST_SELECTS }
     ensures { IfOk result (λ v. v.items ≡ starts_from 0 (see_graphs graphs.now)) }
 {
     let mut starts = Vec::new(alloc);

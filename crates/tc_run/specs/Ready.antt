@@ -1,6 +1,7 @@
 -- What holds where bodies are instantiated: the rules are those of the run, what was found by them is right, and the limits
 -- are kept so far. A record gathers what is asked of a call.
 use Rattle.std.specs.Prelude.{◌≡◌, ◌<◌, ◌≤◌, ℕ, Result, OnOk, length}
+use Rattle.tc_base.specs.declared.limits.TheConstants.{MOST_OPEN, MOST_WORK}
 use Rattle.tc_model.specs.Chains.{children}
 use Rattle.tc_rules.specs.Tasks.{IsSomeMove}
 use Rattle.tc_run.specs.Lettered.{Lettered, bare}
@@ -36,8 +37,8 @@ pub record IsReadyOn (r : Runner) (h : Context) (k : KnownNodes) (done around : 
   pub runner : IsRunner r
   pub here : IsContext r h
   pub known : AreFoundBy r k
-  pub work : done ≤ 4000000
-  pub nesting : around ≤ 8000
+  pub work : done ≤ MOST_WORK
+  pub nesting : around ≤ MOST_OPEN
 
 -- the ancestor state above nodes and the state of a move on them, by their numbers; work and nesting as before
 pub record IsReadyBelow (r : Runner) (top state_of_move : ℕ) (k : KnownNodes) (done around : ℕ) : Type 0 where
@@ -45,10 +46,10 @@ pub record IsReadyBelow (r : Runner) (top state_of_move : ℕ) (k : KnownNodes) 
   pub above : top < length (told_by r).ancestors.states
   pub state : IsSomeMove (told_by r) state_of_move
   pub known : AreFoundBy r k
-  pub work : done ≤ 4000000
-  pub nesting : around ≤ 8000
+  pub work : done ≤ MOST_WORK
+  pub nesting : around ≤ MOST_OPEN
 
 -- the same afterwards
 pub record StaysReady {T : Type 0} (r : Runner) (k : KnownNodes) (done : ℕ) (x : Result T RunFault) : Type 0 where
-  pub few : OnOk x (done ≤ 4000000)
+  pub few : OnOk x (done ≤ MOST_WORK)
   pub known : AreFoundBy r k

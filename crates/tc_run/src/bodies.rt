@@ -3,6 +3,7 @@
 // A node is known by its children with their letters and by the ancestor state at it. Each function puts out into `output`, and is given
 // how many bodies and instructions stand around what it does, and what is remembered of nodes.
 ghost use Rattle.std.specs.Prelude.{◌≡◌, ◌≤◌, ◌<◌, ℕ, List, cond, Contains, is_some, IfSome, OnOk};
+ghost use Rattle.tc_base.specs.declared.limits.TheConstants.{MOST_OPEN, MOST_WORK};
 ghost use Rattle.tc_model.specs.Chains as c;
 ghost use Rattle.tc_model.specs.Chains.{string_value};
 ghost use Rattle.tc_model.specs.Letters as letters;
@@ -78,8 +79,8 @@ pub(crate) fn root<'b>(
     output: &mut Output<'b>,
 ) -> Result<(), RunFault>
     requires document { IsDocument runner.now (trees nodes.now) }
-    requires work { output.old.work ≤ 4000000 }
-    ensures few { OnOk result (output.new.work ≤ 4000000) }
+    requires work { output.old.work ≤ MOST_WORK }
+    ensures few { OnOk result (output.new.work ≤ MOST_WORK) }
     ensures outcome { (bodies : List CallFreeBody) → HasBodies runner.now bodies
         → Answers 0 output.old output.new result
         (counted
@@ -304,9 +305,9 @@ fn copy<'b>(
 
 /// The string-value of the current node.
 fn put_self<'b>(here: &Context<'b>, output: &mut Output<'b>) -> Result<(), RunFault>
-    requires { output.old.work ≤ 4000000 }
-    ensures few { OnOk result (output.new.work ≤ 4000000) }
-    ensures outcome { (around : ℕ) → around ≤ 8000
+    requires { output.old.work ≤ MOST_WORK }
+    ensures few { OnOk result (output.new.work ≤ MOST_WORK) }
+    ensures outcome { (around : ℕ) → around ≤ MOST_OPEN
         → Answers around output.old output.new result (put_text (string_value (node here.now))) }
 {
     match here.shape {

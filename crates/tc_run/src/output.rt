@@ -29,8 +29,8 @@ pub(crate) struct Output<'b> {
 
 /// Within one more body or instruction.
 pub(crate) fn deeper(nesting: u32) -> Result<u32, RunFault>
-    ensures ok { IfOk result (λ n. (n ≡ nesting + 1) × (n ≤ 8000)) }
-    ensures err { IfErr result (λ e. (e ≡ RunFault.TooOpen) × (8000 < nesting + 1)) }
+    ensures ok { IfOk result (λ n. (n ≡ nesting + 1) × (n ≤ MOST_OPEN)) }
+    ensures err { IfErr result (λ e. (e ≡ RunFault.TooOpen) × (MOST_OPEN < nesting + 1)) }
 {
     if nesting < MOST_OPEN {
         Ok(nesting + 1)
@@ -54,10 +54,11 @@ impl<'b> Output<'b> {
 
     /// One more body, element or text.
     pub(crate) fn count(&mut self) -> Result<(), RunFault>
-        ensures ok { OnOk result ((self.new.work ≡ self.old.work + 1) × (self.new.work ≤ 4000000)) }
+        ensures ok { OnOk result
+            ((self.new.work ≡ self.old.work + 1) × (self.new.work ≤ MOST_WORK)) }
         ensures nodes { OnOk result (self.new.nodes.items ≡ self.old.nodes.items) }
         ensures err { IfErr result
-            (λ e. (e ≡ RunFault.TooMuchWork) × (4000000 < self.old.work + 1)) }
+            (λ e. (e ≡ RunFault.TooMuchWork) × (MOST_WORK < self.old.work + 1)) }
     {
         if self.work < MOST_WORK {
             self.work += 1;
@@ -70,9 +71,9 @@ impl<'b> Output<'b> {
     /// One more text, where it has a character.
     #[tactic(auto, using(tc_model::proofs::Views::pushed_text))]
     pub(crate) fn put(&mut self, text: &'b str) -> Result<(), RunFault>
-        requires { self.old.work ≤ 4000000 }
-        ensures few { OnOk result (self.new.work ≤ 4000000) }
-        ensures outcome { (around : ℕ) → around ≤ 8000
+        requires { self.old.work ≤ MOST_WORK }
+        ensures few { OnOk result (self.new.work ≤ MOST_WORK) }
+        ensures outcome { (around : ℕ) → around ≤ MOST_OPEN
             → Answers around self.old self.new result (put_text text.now) }
     {
         if text.is_empty() {
@@ -85,9 +86,10 @@ impl<'b> Output<'b> {
 
     /// The texts in trees, joined.
     pub(crate) fn put_joined(&mut self, nodes: &'b [Lettered<'b>]) -> Result<(), RunFault>
-        requires { self.old.work ≤ 4000000 }
-        ensures few { OnOk result (self.new.work ≤ 4000000) }
-        ensures outcome { (around : ℕ) → around ≤ 8000 → Answers around self.old self.new result
+        requires { self.old.work ≤ MOST_WORK }
+        ensures few { OnOk result (self.new.work ≤ MOST_WORK) }
+        ensures outcome { (around : ℕ) → around ≤ MOST_OPEN
+            → Answers around self.old self.new result
             (put_text (joined_texts (bare (l.trees nodes.now)))) }
     {
         let text = joined_text(self.arena, nodes)?;
@@ -96,9 +98,9 @@ impl<'b> Output<'b> {
 
     /// The string-value of a node that was selected, if one was.
     pub(crate) fn put_value(&mut self, hit: Option<Hit<'b>>) -> Result<(), RunFault>
-        requires { self.old.work ≤ 4000000 }
-        ensures few { OnOk result (self.new.work ≤ 4000000) }
-        ensures outcome { (around : ℕ) → around ≤ 8000
+        requires { self.old.work ≤ MOST_WORK }
+        ensures few { OnOk result (self.new.work ≤ MOST_WORK) }
+        ensures outcome { (around : ℕ) → around ≤ MOST_OPEN
             → Answers around self.old self.new result (put_text (value_of hit.entry)) }
     {
         match hit {
@@ -113,9 +115,9 @@ impl<'b> Output<'b> {
         ensures before { IfOk result (λ v. v.items ≡ self.old.nodes.items) }
         ensures nodes { OnOk result (trees self.new.nodes.items ≡ none) }
         ensures work { OnOk result
-            ((self.new.work ≡ self.old.work + 1) × (self.new.work ≤ 4000000)) }
+            ((self.new.work ≡ self.old.work + 1) × (self.new.work ≤ MOST_WORK)) }
         ensures err { IfErr result
-            (λ e. (e ≡ RunFault.TooMuchWork) × (4000000 < self.old.work + 1)) }
+            (λ e. (e ≡ RunFault.TooMuchWork) × (MOST_WORK < self.old.work + 1)) }
     {
         self.count()?;
         Ok(mem::replace(&mut self.nodes, Vec::new(self.arena)))

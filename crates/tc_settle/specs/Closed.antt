@@ -1,5 +1,6 @@
 -- What is kept of rows that are derived: what each is made of, and its cost.
 use Rattle.std.specs.Prelude.{◌≡◌, ◌<◌, ◌≤◌, ◌⊎◌, ◌+◌, ℕ, length, slice_get, slice_index, Some}
+use Rattle.tc_base.specs.declared.limits.TheConstants.{MOST_SHOWN_NODES}
 use Rattle.tc_settle.specs.declared.closed.Closed.{Closed}
 use Rattle.tc_settle.specs.declared.closed.MadeHedge.{MadeHedge}
 use Rattle.tc_settle.specs.declared.closed.MadeHedge.TheVariants as hedge
@@ -8,7 +9,7 @@ use Rattle.tc_settle.specs.declared.closed.MadeTree.TheVariants as tree
 use Rattle.tc_settle.specs.declared.closed.CloseFault.{CloseFault}
 use Rattle.tc_settle.specs.declared.closed.CloseFault.TheVariants as fault
 use Rattle.tc_settle.specs.Held.{Held, IsExact, IsNoneAt, IsTextAt, IsAppendAt, IsWrapAt}
-use Rattle.tc_settle.specs.Derived.{HedgeFrom, TreeFrom, AllDerive, IsClosed, IsCost, HaveTooManyTrees, HaveTooManyHedges}
+use Rattle.tc_settle.specs.Derived.{HedgeFrom, TreeFrom, AllDerive, IsClosed, IsCost, HaveTooManyTrees, HaveTooManyHedges, far_cost}
 
 abbrev pub hedge_cost : Closed → ℕ → ℕ
 hedge_cost c u = slice_index c.hedge_costs.items u
@@ -18,7 +19,7 @@ tree_cost c u = slice_index c.tree_costs.items u
 
 -- a number as it is, up to 2,000, and 2,001 for all greater ones
 abbrev pub IsCapped : ℕ → ℕ → Type 0
-IsCapped n c = ((n ≤ 2000) × (c ≡ n)) ⊎ ((2000 < n) × (c ≡ 2001))
+IsCapped n c = ((n ≤ MOST_SHOWN_NODES) × (c ≡ n)) ⊎ ((MOST_SHOWN_NODES < n) × (c ≡ far_cost))
 
 module _ (s : Held) (c : Closed) where
   -- the row of this number is made so, of what makes up its cost

@@ -1,5 +1,6 @@
 -- What is derived of held rows, with the number of nodes, and the least of these numbers.
 use Rattle.std.specs.Prelude.{◌≡◌, ◌<◌, ◌≤◌, ◌⊎◌, ◌+◌, ℕ}
+use Rattle.tc_base.specs.declared.limits.TheConstants.{MOST_SHOWN_NODES}
 use Rattle.tc_settle.specs.Held.{Held, IsNoneAt, IsTextAt, IsAppendAt, IsWrapAt}
 
 module _ (s : Held) where
@@ -32,6 +33,10 @@ module _ (s : Held) where
   abbrev pub HaveTooManyHedges : ℕ → Type 0
   HaveTooManyHedges most = (most < s.hedges) × AllDerive
 
+-- the cost of all that takes more nodes than a document that is shown has
+abbrev pub far_cost : ℕ
+far_cost = MOST_SHOWN_NODES + 1
+
 -- of the numbers at which something comes, the least up to 2,000; 2,001 where all are greater than 2,000
 abbrev pub IsCost : (ℕ → Type 0) → ℕ → Type 0
-IsCost At c = ((c ≤ 2000) × At c × ((n : ℕ) → At n → c ≤ n)) ⊎ ((c ≡ 2001) × ((n : ℕ) → At n → 2000 < n))
+IsCost At c = ((c ≤ MOST_SHOWN_NODES) × At c × ((n : ℕ) → At n → c ≤ n)) ⊎ ((c ≡ far_cost) × ((n : ℕ) → At n → MOST_SHOWN_NODES < n))

@@ -1,5 +1,7 @@
 -- How rows are kept cost by cost: what was tried, and how what is kept goes on.
 use Rattle.std.specs.Prelude.{◌≡◌, ◌<◌, ◌≤◌, ◌⊎◌, ◌+◌, ◌∷◌, [], ◌++◌, ℕ, List, length, slice_index}
+use Rattle.tc_base.specs.declared.limits.TheConstants.{MOST_SHOWN_NODES}
+use Rattle.tc_settle.specs.Derived.{far_cost}
 use Rattle.tc_settle.specs.declared.closed.Closed.{Closed}
 use Rattle.tc_settle.specs.declared.closed.MadeHedge.{MadeHedge}
 use Rattle.tc_settle.specs.declared.closed.MadeTree.{MadeTree}
@@ -11,7 +13,7 @@ abbrev pub IsInOrder : List ℕ → Type 0
 IsInOrder costs = (i j : ℕ) → i ≤ j → j < length costs → slice_index costs i ≤ slice_index costs j
 
 abbrev pub AreCosts : List ℕ → Type 0
-AreCosts costs = IsInOrder costs × ((u : ℕ) → u < length costs → slice_index costs u ≤ 2001)
+AreCosts costs = IsInOrder costs × ((u : ℕ) → u < length costs → slice_index costs u ≤ far_cost)
 
 -- nothing is held
 abbrev pub HoldsNothing : Held → Type 0
@@ -140,7 +142,7 @@ pub record IsReady (most cost : ℕ) (s : Held) (c : Closed) (starts : List ℕ)
 
 -- before trees are tried behind the first lists of trees, at a cost up to 2,000 that is greater than theirs
 pub record IsLevel (cost : ℕ) (s : Held) (c : Closed) (starts : List ℕ) (first : ℕ) : Type 0 where
-  pub near : cost ≤ 2000
+  pub near : cost ≤ MOST_SHOWN_NODES
   pub within : first ≤ s.hedges
   pub lower : (h : ℕ) → h < first → hedge_cost c h < cost
   pub count : length starts ≡ cost + 2
@@ -150,10 +152,10 @@ pub record IsLevel (cost : ℕ) (s : Held) (c : Closed) (starts : List ℕ) (fir
 pub record IsFar (most : ℕ) (s : Held) (c : Closed) (starts : List ℕ) (hedge : ℕ) : Type 0 where
   pub kept : IsKept s c
   pub few : AreFew s c most
-  pub up_to : AreUpTo s c 2001
-  pub done : AreDoneBelow s c 2001
+  pub up_to : AreUpTo s c far_cost
+  pub done : AreDoneBelow s c far_cost
   pub before : AreDoneBefore s c hedge
-  pub count : length starts ≡ 2002
+  pub count : length starts ≡ far_cost + 1
   pub begun : AreStarts s c starts
 
 -- everything was tried, and no more than so many are kept

@@ -5,6 +5,7 @@ ghost use Rattle.tc_model.specs.Trees.{element, none};
 ghost use Rattle.tc_model.specs.Views.{before, trees};
 ghost use Rattle.tc_settle.specs.Building.{IsBuildable, IsNearHedge, IsNearTree};
 ghost use Rattle.tc_settle.specs.Closed.{IsClosure, hedge_cost, tree_cost};
+ghost use Rattle.tc_settle.specs.Derived.{far_cost};
 ghost use Rattle.tc_settle.specs.Made.{IsMadeWith, IsOneMade};
 
 use crate::closed::{Closed, MadeTree};
@@ -13,6 +14,7 @@ use bumpalo::Bump;
 use bumpalo::collections::into_bump_slice;
 use tc_alpha::{Alphabet, Sym};
 use tc_base::NoMemory;
+use tc_base::limits::MOST_SHOWN_NODES;
 use tc_model::Node;
 
 /// Why no tree of a row is built.
@@ -35,9 +37,6 @@ impl From<NoMemory> for BuildFault {
     }
 }
 
-/// The greatest number of nodes of a tree that is built.
-const MOST_NODES: u32 = 2_000;
-
 /// A tree of a row with the least number of nodes, up to 2,000. Its texts are `t`, and its names the fresh ones of
 /// their symbols. The rows are those that the closure is of.
 ///
@@ -57,10 +56,10 @@ pub fn build<'b, R: NumberedRows>(
     ensures made { IfOk result
         (λ node. IsOneMade (R.held rows.now) alphabet.now (before node none) tree
         (tree_cost closed.now tree)) }
-    ensures near { OnOk result (tree_cost closed.now tree ≤ 2000) }
-    ensures many { IsErrOf result BuildFault.TooManyNodes → tree_cost closed.now tree ≡ 2001 }
+    ensures near { OnOk result (tree_cost closed.now tree ≤ MOST_SHOWN_NODES) }
+    ensures many { IsErrOf result BuildFault.TooManyNodes → tree_cost closed.now tree ≡ far_cost }
 {
-    if closed.tree_costs[tree as usize] > MOST_NODES {
+    if closed.tree_costs[tree as usize] > MOST_SHOWN_NODES {
         return Err(BuildFault::TooManyNodes);
     }
     Ok(build_tree(arena, alphabet, rows, closed, tree)?)

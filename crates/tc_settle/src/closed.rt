@@ -1,6 +1,7 @@
 // What is kept of rows: what each is made of, and its cost.
 ghost use Rattle.std.specs.Prelude.{◌≡◌, ◌<◌, ◌≤◌, ◌+◌, ℕ, OnOk, [], ◌∷◌, ◌++◌, length, slice_get, slice_index, MatchOption, Some};
 ghost use Rattle.tc_settle.specs.Closed.{hedge_cost, tree_cost};
+ghost use Rattle.tc_settle.specs.Derived.{far_cost};
 ghost use Rattle.tc_settle.specs.Settled.{AreCosts, IsWithHedge, IsWithTree};
 
 use crate::rows::HoldFault;
@@ -157,7 +158,7 @@ impl Closed {
 fn greatest(costs: &[u32]) -> u32
     requires { AreCosts costs.now }
     ensures greatest { (u : ℕ) → u < length costs.now → slice_index costs.now u ≤ result }
-    ensures few { result ≤ 2001 }
+    ensures few { result ≤ far_cost }
 {
     match costs.last() {
         Some(cost) => *cost,

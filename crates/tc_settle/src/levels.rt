@@ -1,14 +1,16 @@
 // All that is made of rows at one cost, and all that costs more than 2,000.
 ghost use Rattle.std.specs.Prelude.{◌<◌, ◌≤◌, ◌+◌, ℕ, IfErr, IfOk, OnOk};
 ghost use Rattle.tc_settle.specs.Closed.{IsCause};
+ghost use Rattle.tc_settle.specs.Derived.{far_cost};
 ghost use Rattle.tc_settle.specs.Settled.{AppendCosts, AreDoneBelow, AreRangesDone, AreWrapsDone, HedgesTried, IsAt, IsFar, IsReady, IsWhole, TreesTried};
 
 use crate::closed::{CloseFault, Closed, push_start};
 use crate::rows::NumberedRows;
 use crate::runs::{append_level, append_trees, wrap_hedges, wrap_symbols};
+use tc_base::limits::MOST_SHOWN_NODES;
 
 /// Costs from here on are one.
-pub(crate) const FAR: u32 = 2_001;
+pub(crate) const FAR: u32 = MOST_SHOWN_NODES + 1;
 
 /// Tries all that makes up a cost: elements around the lists of trees from a number on, which cost one less, and then
 /// lists of trees with a tree behind. Answers how many lists of trees were wrapped.
@@ -20,7 +22,7 @@ pub(crate) fn level<R: NumberedRows>(
     cost: u32,
     most: u32,
 ) -> Result<u32, CloseFault>
-    requires near { cost ≤ 2000 }
+    requires near { cost ≤ MOST_SHOWN_NODES }
     requires ready { IsReady most cost (R.held rows.old) closed.old starts.old.items wrapped }
     ensures ready { IfOk result
         (λ w. IsReady most (cost + 1) (R.held rows.new) closed.new starts.new.items w) }
@@ -40,11 +42,11 @@ fn wrap_far<R: NumberedRows>(
     hedge: u32,
     most: u32,
 ) -> Result<(), CloseFault>
-    requires at { IsAt (R.held rows.old) closed.old most 2001 }
+    requires at { IsAt (R.held rows.old) closed.old most far_cost }
     requires near { (hedge < (R.held rows.old).hedges)
-        × AreDoneBelow (R.held rows.old) closed.old 2001 }
+        × AreDoneBelow (R.held rows.old) closed.old far_cost }
     ensures tried { OnOk result
-        (TreesTried most 2001 (R.held rows.old) closed.old (R.held rows.new) closed.new
+        (TreesTried most far_cost (R.held rows.old) closed.old (R.held rows.new) closed.new
         (AreWrapsDone (R.held rows.new) closed.new hedge)) }
     ensures cause { IfErr result (λ e. IsCause (R.is_full rows.new) most (R.held rows.new) e) }
 {
@@ -63,11 +65,11 @@ fn append_before<R: NumberedRows>(
     to: u32,
     most: u32,
 ) -> Result<(), CloseFault>
-    requires at { IsAt (R.held rows.old) closed.old most 2001 }
+    requires at { IsAt (R.held rows.old) closed.old most far_cost }
     requires costs { (h t : ℕ) → h < hedge → from ≤ t → t < to
-        → AppendCosts (R.held rows.old) closed.old h t 2001 }
+        → AppendCosts (R.held rows.old) closed.old h t far_cost }
     ensures tried { OnOk result
-        (HedgesTried most 2001 (R.held rows.old) closed.old (R.held rows.new) closed.new
+        (HedgesTried most far_cost (R.held rows.old) closed.old (R.held rows.new) closed.new
         (AreRangesDone (R.held rows.new) closed.new hedge from to)) }
     ensures cause { IfErr result (λ e. IsCause (R.is_full rows.new) most (R.held rows.new) e) }
 {

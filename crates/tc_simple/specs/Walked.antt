@@ -1,6 +1,7 @@
 -- What is kept of the definitions of a syntax tree while its grammar is made.
 use Rattle.std.specs.Prelude.{◌≡◌, ◌<◌, ◌≤◌, ℕ, Bool, List, None, length, map}
 use Rattle.std.specs.List.{All}
+use Rattle.tc_base.specs.declared.limits.TheConstants.{MOST_ELEMENT_PATTERNS}
 use Rattle.tc_graph.specs.declared.cycles.State.{State}
 use Rattle.tc_model.specs.CompactSyntaxLawful.{IsLawfulSyntax}
 use Rattle.tc_model.specs.CompactSyntaxTrees.{Syntax}
@@ -54,7 +55,7 @@ pub record IsSound (s : Syntax) (t : Table) (first : ℕ) (marked : List Bool) (
 -- its elements that are reached, where its grammar isn't too large
 pub record AreCounted (s : Syntax) (t : Table) (marked : List Bool) (found : List Elem) : Type 0 where
   pub elements : map see_element found ≡ elements_of t marked s.definitions
-  pub few : length found ≤ 256
+  pub few : length found ≤ MOST_ELEMENT_PATTERNS
   pub within : (g : Grammar) × Simplifies s g × IsWithinCounts g
 
 -- its grammar, which isn't too large

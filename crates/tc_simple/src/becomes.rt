@@ -1,5 +1,6 @@
 // What patterns become in the grammar.
 ghost use Rattle.std.specs.Prelude.{◌≡◌, ◌≤◌, length, map, IfOk};
+ghost use Rattle.tc_base.specs.declared.limits.TheConstants.{MOST_ELEMENT_PATTERNS};
 ghost use Rattle.tc_model.specs.Grammars as g;
 ghost use Rattle.tc_model.specs.Views as seen;
 ghost use Rattle.tc_model.specs.Simplifies.{both, name_class as name_class_of, name_classes as name_classes_of, number_at as number_in};
@@ -54,7 +55,7 @@ fn name_classes<'b>(
 
 /// The number of the element at a place, from 1.
 fn number_at(elements: &[Elem<'_>], place: Place) -> u32
-    requires { length elements.now ≤ 256 }
+    requires { length elements.now ≤ MOST_ELEMENT_PATTERNS }
     ensures { result ≡ number_in (map see_element elements.now) (seen.place place) }
 {
     let mut number = 1;
@@ -149,7 +150,7 @@ pub fn pattern<'b>(
     elements: &[Elem<'b>],
     made: &[Pat<'b>],
 ) -> Result<Pat<'b>, NoMemory>
-    requires few { length elements.now ≤ 256 }
+    requires few { length elements.now ≤ MOST_ELEMENT_PATTERNS }
     requires numbers { HasNumbersBelow table.now (length made.now) }
     ensures { IfOk result
         (λ p. seen.pattern p
@@ -181,7 +182,7 @@ fn patterns<'b>(
     elements: &[Elem<'b>],
     made: &[Pat<'b>],
 ) -> Result<&'b [Pat<'b>], NoMemory>
-    requires few { length elements.now ≤ 256 }
+    requires few { length elements.now ≤ MOST_ELEMENT_PATTERNS }
     requires numbers { HasNumbersBelow table.now (length made.now) }
     ensures { IfOk result
         (λ ps. seen.patterns ps.now

@@ -23,16 +23,17 @@ use crate::order::{all_patterns, all_sizes};
 use bumpalo::Bump;
 use bumpalo::collections::into_bump_slice;
 use tc_base::NoMemory;
+use tc_base::limits::{GREATEST_PATTERN_DEPTH, MOST_ELEMENT_PATTERNS, MOST_PATTERN_NODES};
 use tc_graph::Walk;
 use tc_model::{ElemPat, Grammar, Pat};
 use tc_rnc::Syntax;
 
 /// The most nodes of patterns, the greatest depth, and the most element patterns.
-const MOST_NODES: u64 = 65536;
+const MOST_NODES: u64 = MOST_PATTERN_NODES as u64;
 
-const GREATEST_DEPTH: u64 = 2000;
+const GREATEST_DEPTH: u64 = GREATEST_PATTERN_DEPTH as u64;
 
-const MOST_ELEMENTS: usize = 256;
+const MOST_ELEMENTS: usize = MOST_ELEMENT_PATTERNS as usize;
 
 /// The size of the start and of the contents of elements, side by side.
 fn total<'b>(table: &Table<'b>, sizes: &[Size], start: Size, elements: &[Elem<'b>]) -> Size
@@ -54,7 +55,7 @@ fn element_pattern<'b>(
     elements: &[Elem<'b>],
     element: &Elem<'b>,
 ) -> Result<ElemPat<'b>, NoMemory>
-    requires few { length elements.now ≤ 256 }
+    requires few { length elements.now ≤ MOST_ELEMENT_PATTERNS }
     requires numbers { HasNumbersBelow table.now (length made.now) }
     ensures { IfOk result
         (λ e. seen.element_pattern e ∷ []
@@ -73,7 +74,7 @@ fn element_patterns<'b>(
     made: &[Pat<'b>],
     elements: &[Elem<'b>],
 ) -> Result<&'b [ElemPat<'b>], NoMemory>
-    requires few { length elements.now ≤ 256 }
+    requires few { length elements.now ≤ MOST_ELEMENT_PATTERNS }
     requires numbers { HasNumbersBelow table.now (length made.now) }
     ensures { IfOk result
         (λ es. map seen.element_pattern es.now
@@ -161,7 +162,7 @@ pub fn built<'b>(
 ) -> Result<Grammar<'b>, NoMemory>
     requires marks { AreMarks table.now marks.now }
     requires order { AreNumbers table.now start walk.now.order.items }
-    requires few { length found.now ≤ 256 }
+    requires few { length found.now ≤ MOST_ELEMENT_PATTERNS }
     ensures { IfOk result
         (λ grammar. (s : t.Syntax) → IsLawfulSyntax s → IsFaultless s
         → Resolves s table.now start marks.now walk.now.states.items walk.now.order.items

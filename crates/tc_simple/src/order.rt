@@ -1,6 +1,7 @@
 // The definitions one after the other, each after those to which it refers outside its elements.
 ghost use Rattle.std.specs.Prelude.{◌≡◌, ◌<◌, ◌≤◌, ℕ, List, length, map, IfOk, OnOk};
 ghost use Rattle.std.specs.List.{All};
+ghost use Rattle.tc_base.specs.declared.limits.TheConstants.{MOST_ELEMENT_PATTERNS};
 ghost use Rattle.tc_model.specs.CompactSyntaxTrees as t;
 ghost use Rattle.tc_model.specs.Simplifies.{Element};
 ghost use Rattle.tc_simple.specs.Nodes.{see_element};
@@ -66,7 +67,7 @@ fn put_pattern<'b>(
 ) -> Result<(), NoMemory>
     requires marks { AreMarks table.now marks.now }
     requires place { IsPlace table.now number (length made.old) }
-    requires few { length elements.now ≤ 256 }
+    requires few { length elements.now ≤ MOST_ELEMENT_PATTERNS }
     ensures { OnOk result
         (PutsPattern table.now marks.now (map see_element elements.now) number made.old made.new) }
 {
@@ -88,7 +89,7 @@ pub fn all_patterns<'b>(
 ) -> Result<&'b [Pat<'b>], NoMemory>
     requires marks { AreMarks table.now marks.now }
     requires order { All (λ k. k < length table.now.patterns.items) walk.now.order.items }
-    requires few { length elements.now ≤ 256 }
+    requires few { length elements.now ≤ MOST_ELEMENT_PATTERNS }
     ensures { IfOk result
         (λ v. (length v.now ≡ length table.now.patterns.items)
         × ((s : t.Syntax)

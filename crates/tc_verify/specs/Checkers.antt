@@ -1,6 +1,7 @@
 -- What holds of the rows of a certificate while they are checked.
 use Rattle.std.specs.Prelude.{◌≡◌, ◌≤◌, ◌↔◌, ℕ, List, [], length, true, All}
 use Rattle.std.specs.List.{Contains}
+use Rattle.tc_base.specs.declared.limits.TheConstants.{GREATEST_LIMIT}
 use Rattle.tc_mat.specs.Held.{AreDifferent}
 use Rattle.tc_model.specs.CertificateData.{IsFormed}
 use Rattle.tc_model.specs.CertificateFits.{AllFit}
@@ -30,8 +31,8 @@ pub record IsChecker (r : Rows) (hedges : List HRow) (trees : List TRow) (hedge_
   pub stand : (x : Triple) → IsMachineOf x r.machine.now → AreRowsOf x r
   pub fixed : r.is_fixed ≡ true
   pub different : AreDifferent r.outputs
-  pub few_hedges : length hedges ≤ 4000
-  pub few_trees : length trees ≤ 4000
+  pub few_hedges : length hedges ≤ GREATEST_LIMIT
+  pub few_trees : length trees ≤ GREATEST_LIMIT
   pub hedges_stand : (x : Triple) → IsMachineOf x r.machine.now → All (HedgeStands x r.outputs) hedges
   pub trees_stand : (x : Triple) → IsMachineOf x r.machine.now → All (TreeStands x r.outputs) trees
   pub held_hedges : (ns : List ℕ) → Contains hedge_lists ns ↔ Contains (hedge_numbers hedges) ns

@@ -1,5 +1,6 @@
 // Whether the numbers of a certificate's lines fit a machine.
 ghost use Rattle.std.specs.Prelude.{◌≡◌, ◌<◌, ◌↔◌, ◌+◌, length, IsTrue, All, MatchOption};
+ghost use Rattle.tc_base.specs.declared.limits.TheConstants.{MOST_OUTPUTS};
 ghost use Rattle.tc_model.specs.CertificateData.{IsFormed};
 ghost use Rattle.tc_model.specs.CertificateFits.{AllFit, AreFrom, HedgeFits, IsFirstUnfit, OutputFits, PairsFit, TreeFits, line_of_hedge, line_of_tree};
 ghost use Rattle.tc_verify.specs.Fits.{shape_sizes};
@@ -82,7 +83,7 @@ pub(crate) fn first_unfit(shape: Shape, cert: &CertData) -> Option<u32>
 
 /// The line of an output.
 fn output_line(place: u32) -> u32
-    requires { place < 65536 }
+    requires { place < MOST_OUTPUTS }
     ensures { result ≡ 3 + place }
 {
     3 + place
