@@ -3,5 +3,6 @@ pub mod NamesLaws
 pub mod CharsLaws
 pub mod CharsFront
 pub mod PlainBlocks
+pub mod BlockLaws
 pub mod ReferenceLaws
 mod Prefixes

@@ -1,18 +1,19 @@
 -- Blocks of ASCII, and what stands behind them.
-use Rattle.std.proofs.Common.{◌≡◌, ℕ, zero, suc, ◌+◌, ◌-◌, ◌%◌, ◌^◌, ◌<◌, ◌≤◌, Bool, true, false, cond, eqb, ltb, leb, List, [], ◌∷◌, ◌++◌, map, length, take, drop, get_or, replicate, bit_or, bit_xor, refl, ap, ◌∙◌, sym, subst, arith, take-append-drop, append_assoc, ◌&&◌}
+use Rattle.std.proofs.Common.{◌≡◌, ℕ, zero, suc, ◌+◌, ◌-◌, ◌%◌, ◌^◌, ◌<◌, ◌≤◌, Bool, true, false, cond, eqb, ltb, leb, List, [], ◌∷◌, ◌++◌, map, length, take, drop, get_or, replicate, bit_or, bit_xor, refl, ap, ◌∙◌, sym, subst, arith, take-append-drop, length-append, append_assoc, ◌&&◌, w8, Fits}
 use Rattle.std.specs.List.{list_all}
 use Rattle.std.proofs.Math.Seq.{take-append_seam, take-add}
-use Rattle.std.proofs.lemmas.Bool.{eqb-true, eqb-false, leb-false, ltb-false, and_from}
+use Rattle.std.specs.Prelude.{encode_utf8, nat_le}
+use Rattle.std.proofs.lemmas.Bool.{eqb-true, eqb-false, leb-false, ltb-false, and_from, and_parts}
 use Rattle.std.proofs.lemmas.Bool.Decides.{nat_tests}
 use Rattle.std.proofs.lemmas.List.{length-map}
 use Rattle.std.proofs.lemmas.List.Folds.{list_all-append}
 use Rattle.std.proofs.lemmas.Simd.{length-zip2, length-replicate, mask_l-mod}
-use Rattle.std.proofs.lemmas.Str.{IsUtf8-from_ascii}
-use lib.Lanes.{zip2, mask_l, top}
+use Rattle.std.proofs.lemmas.Str.{IsUtf8-from_ascii, length-encode, len_utf8_bounds}
+use lib.Lanes.{Each1, zip2, mask_l, top}
 use Rattle.tc_model.specs.Names.{IsChars}
 use Rattle.tc_model.specs.XmlTextBytes.{FrontOf}
-use Rattle.tc_model.proofs.XmlTextChars.{join_chars}
-use Rattle.tc_scan.specs.Chars.{is_start_of_chars_only}
+use Rattle.tc_model.proofs.XmlTextChars.{join_chars, no_chars}
+use Rattle.tc_scan.specs.Chars.{is_char_of_ascii, is_start_of_chars_only}
 use Rattle.tc_scan.proofs.CharsLaws.{plain_text}
 use Rattle.tc_scan.proofs.FrontLaws.{same_rest}
 
@@ -83,6 +84,69 @@ plain_block xs long e =
     sym (mask_l-mod (map (top 7) (lanes 64 xs)) 64 (omega (arith, length-map (lanes 64 xs) (top 7), lanes_long xs long))) ∙ eqb-true _ _ e in
     let (starts, ascii) = plain_lanes xs (ap (λ n. mask_l (map (top 7) (lanes n xs))) long ∙ none) in
     plain_text xs (IsUtf8-from_ascii xs ascii) starts
+
+-- ---- blocks of printed ASCII and LF
+
+abbrev pub from_space : ℕ → ℕ → ℕ
+from_space a b = (a + (256 - b)) % 256
+
+abbrev pub printed_lanes : ℕ → List ℕ → List ℕ
+printed_lanes n xs = zip2 bit_xor (zip2 at_least (replicate n 96) (zip2 from_space xs (replicate n 32))) (zip2 same xs (replicate n 10))
+
+printed_lane : (x : ℕ) → x < 256 → cond {A = ℕ} (top 7 (bit_xor (cond (leb 96 (from_space x 32)) 255 0) (cond (eqb x 10) 255 0))) 1 0 ≡ 0 → (is_start_of_chars_only x ≡ true) × (x < 128)
+printed_lane x l = by (leb 96 (from_space x 32)) (eqb x 10) refl refl
+  where
+    by : (a n : Bool) → leb 96 (from_space x 32) ≡ a → eqb x 10 ≡ n → cond {A = ℕ} (top 7 (bit_xor (cond a 255 0) (cond n 255 0))) 1 0 ≡ 0
+        → (is_start_of_chars_only x ≡ true) × (x < 128)
+    by a true e f z = subst (λ y. (is_start_of_chars_only y ≡ true) × (y < 128)) (sym (eqb-true x 10 f)) (refl, omega arith)
+    by true false e f z = absurd (omega arith)
+    by false false e f z =
+        let few : (x + (256 - 32)) % 256 < 96 = omega (arith, leb-false 96 (from_space x 32) e) in
+        let low : 32 ≤ x = omega (arith, few, l) in
+        let high : x < 128 = omega (arith, few, l) in
+        (printed x low high, high)
+
+all_printed : (xs : List ℕ) → Each1 (Fits w8) xs → mask_l (map (top 7) (printed_lanes (length xs) xs)) ≡ 0 → (list_all is_start_of_chars_only xs ≡ true) × ((i : ℕ) → get_or xs i 0 < 128)
+all_printed [] f e = (refl, λ i. omega arith)
+all_printed (x ∷ xs) f e =
+    let here = printed_lane x (omega (arith, f.0.fits)) (omega arith) in
+    let others = all_printed xs f.1 (omega arith) in
+    (and_from (is_start_of_chars_only x) (list_all is_start_of_chars_only xs) here.0 others.0, elim [ zero ↦ here.1 | suc i ↦ others.1 i ])
+
+printed_lanes_long : (xs : List ℕ) → length xs ≡ 64 → length (printed_lanes 64 xs) ≡ 64
+printed_lanes_long xs long =
+    both_long bit_xor _ _
+    (both_long at_least (replicate 64 96) _ refl (both_long from_space xs (replicate 64 32) long refl))
+    (both_long same xs (replicate 64 10) long refl)
+
+pub printed_block : (xs : List ℕ) → length xs ≡ 64 → Each1 (Fits w8) xs → eqb (mask_l (map (top 7) (printed_lanes 64 xs)) % 2 ^ 64) 0 ≡ true → IsChars xs
+printed_block xs long fits e =
+    let none : mask_l (map (top 7) (printed_lanes 64 xs)) ≡ 0 =
+    sym (mask_l-mod (map (top 7) (printed_lanes 64 xs)) 64 (omega (arith, length-map (printed_lanes 64 xs) (top 7), printed_lanes_long xs long))) ∙ eqb-true _ _ e in
+    let (starts, ascii) = all_printed xs fits (ap (λ n. mask_l (map (top 7) (printed_lanes n xs))) long ∙ none) in
+    plain_text xs (IsUtf8-from_ascii xs ascii) starts
+
+-- ---- bytes of ASCII
+
+below_half : (x : ℕ) → nat_le x 127 ≡ true → x < 128
+below_half x h = grind (arith, nat_tests)
+
+ascii_starts : (xs : List ℕ) → list_all is_char_of_ascii xs ≡ true → (list_all is_start_of_chars_only xs ≡ true) × ((i : ℕ) → get_or xs i 0 < 128)
+ascii_starts [] e = (refl, λ i. omega arith)
+ascii_starts (x ∷ xs) e =
+    let (here, more) = and_parts (is_char_of_ascii x) (list_all is_char_of_ascii xs) e in
+    let (low, start) = and_parts (nat_le x 127) (is_start_of_chars_only x) here in
+    let others = ascii_starts xs more in
+    (and_from (is_start_of_chars_only x) (list_all is_start_of_chars_only xs) start others.0, elim [ zero ↦ below_half x low | suc i ↦ others.1 i ])
+
+-- bytes that are each a character
+pub ascii_chars : (xs : List ℕ) → list_all is_char_of_ascii xs ≡ true → IsChars xs
+ascii_chars xs e = let (starts, ascii) = ascii_starts xs e in plain_text xs (IsUtf8-from_ascii xs ascii) starts
+
+-- nothing stands in no bytes
+pub front_of_none : (bytes : List ℕ) → length bytes ≡ 0 → FrontOf bytes []
+front_of_none [] e = record { after = []; parts = refl; characters = no_chars; longest = λ c r f s. absurd (omega (arith, ap length f, length-append (encode_utf8 c) r, length-encode c, len_utf8_bounds c)) }
+front_of_none (b ∷ bs) e = absurd (omega (arith, e))
 
 -- ---- blocks that show that no character that XML lacks begins in them
 

@@ -9,6 +9,10 @@ use Rattle.tc_model.specs.Names.{IsChars}
 abbrev pub is_start_of_chars_only : ℕ → Bool
 is_start_of_chars_only b = b == 0x9 || b == 0xA || b == 0xD || (nat_le 0x20 b && not (b == 0xEF))
 
+-- a byte that is a character of ASCII that XML has
+abbrev pub is_char_of_ascii : ℕ → Bool
+is_char_of_ascii b = nat_le b 0x7F && is_start_of_chars_only b
+
 -- the longest front that is text in UTF-8
 pub record IsUtf8Front (bytes front : List ℕ) : Type 0 where
   pub after : List ℕ

@@ -6,7 +6,7 @@ ghost use Rattle.std.specs.Prelude.{◌≡◌, ◌<◌, ◌≤◌, ◌↔◌, Is
 ghost use Rattle.std.specs.List.{list_all};
 ghost use Rattle.tc_model.specs.Names.{IsChars};
 ghost use Rattle.tc_model.specs.XmlTextBytes.{FrontOf};
-ghost use Rattle.tc_scan.specs.Chars.{IsPastChars, IsUtf8Front, is_start_of_chars_only};
+ghost use Rattle.tc_scan.specs.Chars.{IsPastChars, IsUtf8Front, is_char_of_ascii, is_start_of_chars_only};
 
 use crate::names::first_char;
 use simdutf8::compat::from_utf8;
@@ -125,9 +125,33 @@ fn after_characters(text: &str) -> &str
 fn first_characters(bytes: &[u8]) -> &str
     ensures { FrontOf bytes.now result.now }
 {
+    if bytes.is_empty() {
+        return "";
+    }
     let text = utf8_front(bytes);
     let rest = after_characters(text);
     &text[..text.len() - rest.len()]
+}
+
+/// Whether a block is printed ASCII and LF alone. The 96 bytes from 0x20 on are those.
+#[inline(always)]
+fn is_printed(block: u8x64) -> bool
+    ensures { IsTrue result → IsChars block }
+{
+    let others = (block - u8x64::splat(b' ')).simd_ge(u8x64::splat(96));
+    let line_ends = block.simd_eq(u8x64::splat(b'\n'));
+    (others ^ line_ends).to_bitmask() == 0
+}
+
+/// Whether a block is ASCII, of characters that XML has, tabs and CR too.
+#[inline(always)]
+fn is_spaced(block: u8x64) -> bool
+    ensures { IsTrue result → IsChars block }
+{
+    let unprinted = block.simd_lt(u8x64::splat(b' ')) | block.simd_ge(u8x64::splat(0x80));
+    let tabs = block.simd_eq(u8x64::splat(b'\t'));
+    let line_ends = block.simd_eq(u8x64::splat(b'\n')) | block.simd_eq(u8x64::splat(b'\r'));
+    (unprinted ^ (tabs | line_ends)).to_bitmask() == 0
 }
 
 /// Whether a block is ASCII, of characters that XML has.
@@ -135,10 +159,7 @@ fn first_characters(bytes: &[u8]) -> &str
 fn is_plain(block: u8x64) -> bool
     ensures { IsTrue result → IsChars block }
 {
-    let unprinted = block.simd_lt(u8x64::splat(b' ')) | block.simd_ge(u8x64::splat(0x80));
-    let tabs = block.simd_eq(u8x64::splat(b'\t'));
-    let line_ends = block.simd_eq(u8x64::splat(b'\n')) | block.simd_eq(u8x64::splat(b'\r'));
-    (unprinted ^ (tabs | line_ends)).to_bitmask() == 0
+    is_printed(block) || is_spaced(block)
 }
 
 /// Where the plain blocks end that stand from this place on.
@@ -175,14 +196,50 @@ fn next_plain(bytes: &[u8], from: usize) -> usize
     bytes.len()
 }
 
-/// Whether the bytes are characters of XML alone.
-fn are_characters(bytes: &[u8]) -> bool
+/// Whether this byte is a character of ASCII that XML has.
+fn is_ascii_char(byte: u8) -> bool
+    ensures { result ≡ is_char_of_ascii byte }
+{
+    byte <= 0x7F && starts_chars_only(byte)
+}
+
+/// Whether all bytes are such characters, each looked at.
+fn are_ascii_chars(bytes: &[u8]) -> bool
+    ensures { result ≡ list_all is_char_of_ascii bytes.now }
+{
+    let mut plain = true;
+    for byte in bytes {
+        plain &= is_ascii_char(*byte);
+    }
+    plain
+}
+
+/// Whether the bytes are such characters alone, and fewer than a block.
+fn are_few_ascii_chars(bytes: &[u8]) -> bool
+    ensures { IsTrue result → IsChars bytes.now }
+{
+    if bytes.len() >= BLOCK {
+        return false;
+    }
+    are_ascii_chars(bytes)
+}
+
+/// Whether the bytes are characters of XML alone, read as a text.
+#[inline(never)]
+fn are_read_characters(bytes: &[u8]) -> bool
     ensures { IsTrue result → IsChars bytes.now }
 {
     match from_utf8(bytes) {
         Ok(text) => are_chars(text),
         Err(_) => false,
     }
+}
+
+/// Whether the bytes are characters of XML alone.
+fn are_characters(bytes: &[u8]) -> bool
+    ensures { IsTrue result → IsChars bytes.now }
+{
+    are_few_ascii_chars(bytes) || are_read_characters(bytes)
 }
 
 /// How many bytes at the front are characters of XML, by runs of plain blocks and what stands between them: all, or all

@@ -5,7 +5,8 @@ ghost use Rattle.tc_base.specs.Characters.{is_white};
 ghost use Rattle.tc_model.specs.XmlTextBytes as xml;
 ghost use Rattle.tc_model.specs.XmlTextReferences as xml_references;
 
-use memchr::{memchr2, memchr3, memmem};
+use crate::blocks::plain_bytes_len;
+use memchr::{memchr3, memmem};
 
 /// What follows this ASCII byte, where the text begins with it.
 pub fn after_byte(text: &str, byte: u8) -> Option<&str>
@@ -22,6 +23,7 @@ pub fn after_byte(text: &str, byte: u8) -> Option<&str>
 }
 
 /// What follows this mark, where the text begins with it.
+#[inline(always)]
 pub fn after_mark<'t>(text: &'t str, mark: &str) -> Option<&'t str>
     ensures { MatchOption result ((r : List ℕ) → text.now ≡ mark.now ++ r → ⊥)
         (λ rest. text.now ≡ mark.now ++ rest.now) }
@@ -84,10 +86,7 @@ pub fn plain_len(text: &str) -> usize
     ensures count { result ≡ prefix_len xml_references.is_plain text.now }
     ensures within { result ≤ length text.now }
 {
-    match memchr2(b'<', b'&', text.as_bytes()) {
-        Some(count) => count,
-        None => text.len(),
-    }
+    plain_bytes_len(text.as_bytes())
 }
 
 /// How many bytes stand before the first such quote, `<` or `&`, or before the end (XML 1.0, 2.3, [10]).

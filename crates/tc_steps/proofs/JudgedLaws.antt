@@ -1,6 +1,7 @@
 -- A document that is taken piece by piece.
-use Rattle.std.proofs.Common.{◌≡◌, ◌↔◌, ◌∙◌, ℕ, List, [], ◌∷◌, ◌++◌, Bool, true, false, cond, IsTrue, refl, sym, ap, subst, reverse, append_assoc, append-nil}
-use Rattle.std.proofs.lemmas.List.{reverse-append}
+use Rattle.std.proofs.Common.{◌≡◌, ◌↔◌, ◌∙◌, ℕ, ◌+◌, ◌<◌, List, [], ◌∷◌, ◌++◌, Bool, true, false, cond, IsTrue, refl, sym, ap, subst, length, take, get_or, set, reverse, append_assoc, append-nil, arith}
+use Rattle.std.proofs.lemmas.List.{length-set, reverse-append, take_all, take_more, take_more_set}
+use Rattle.std.proofs.lemmas.Option.{same_Some, slice_get_read}
 use Rattle.tc_model.specs.Events.{Event, characters, start, end, nothing, event, events}
 use Rattle.tc_model.specs.Events as ev
 use Rattle.tc_model.specs.Grammars.{Grammar}
@@ -101,6 +102,16 @@ last_kids (element o k rest) m n inside kids e = absurd (never_none rest m insid
 
 reversed : (old rest : List Opened) (o : Opened) → old ≡ rest ++ o ∷ [] → reverse old ≡ o ∷ reverse rest
 reversed old rest o e = ap reverse e ∙ reverse-append rest (o ∷ [])
+
+-- the innermost element behind the others, and another in its place
+pub last_apart : (xs : List Opened) (n : ℕ) (o : Opened) → n + 1 ≡ length xs → o ≡ get_or xs n o → xs ≡ take n xs ++ o ∷ []
+last_apart xs n o e at = sym (take_all (n + 1) xs (omega (arith, e))) ∙ (take_more xs n o (omega (arith, e)) ∙ ap (λ w. take n xs ++ w ∷ []) (sym at))
+
+pub last_set : (xs : List Opened) (n : ℕ) (y : Opened) → n + 1 ≡ length xs → set xs n y ≡ take n xs ++ y ∷ []
+last_set xs n y e = sym (take_all (n + 1) (set xs n y) (omega (arith, e, length-set xs n y))) ∙ take_more_set xs n y (omega (arith, e))
+
+pub one_place : (xs : List Opened) (n : ℕ) (a b : Opened) → n < length xs → a ≡ get_or xs n a → b ≡ get_or xs n b → a ≡ b
+one_place xs n a b l e f = same_Some a b (sym (slice_get_read xs (length xs) n a refl l e) ∙ slice_get_read xs (length xs) n b refl l f)
 
 module _ (x : Grammar) where
   open_kept : (old new : Moves) → Keeps x old new → (os : List Opened) (p : Place) → AreOpen x old os p → AreOpen x new os p

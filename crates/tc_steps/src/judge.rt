@@ -70,16 +70,13 @@ impl<'h, 't> Judge<'h, 't> {
             → t.is_white_space_only run ≡ false → IsAt x self.old p
             → IsAt x self.new (put p (t.text run t.none))) }
     {
-        match self.levels.pop() {
-            None => Some(()),
-            Some(Opened { symbol, states }) => {
-                let after = self.moves.after_text(&states)?;
-                self.push_level(Opened {
-                    symbol,
-                    states: after,
-                })
-            }
+        if self.levels.is_empty() {
+            return Some(());
         }
+        let innermost = self.levels.len() - 1;
+        let after = self.moves.after_text(&self.levels[innermost].states)?;
+        self.levels[innermost].states = after;
+        Some(())
     }
 
     /// One more element is open.
@@ -113,16 +110,15 @@ impl<'h, 't> Judge<'h, 't> {
             (kids : t.Trees) → IsElement x self.old.moves n kids inner.now → IsAt x self.old p
             → IsAt x self.new (put p (t.element n kids t.none))) }
     {
-        match self.levels.pop() {
-            None => self.end_root(inner),
-            Some(Opened { symbol, states }) => {
-                let after = self.moves.after_element(inner, &states)?;
-                self.push_level(Opened {
-                    symbol,
-                    states: after,
-                })
-            }
+        if self.levels.is_empty() {
+            return self.end_root(inner);
         }
+        let innermost = self.levels.len() - 1;
+        let after = self
+            .moves
+            .after_element(inner, &self.levels[innermost].states)?;
+        self.levels[innermost].states = after;
+        Some(())
     }
 }
 

@@ -2,6 +2,7 @@
 use Rattle.std.specs.Prelude.{◌≡◌, ◌≢◌, ◌<◌, ◌≤◌, ◌+◌, ℕ, Bool, true, false, List, [], ◌∷◌, ◌++◌, Option, None, Some, length, take, codes, encode_utf8, encode_utf8_all, IsTrue, IsFalse}
 use Rattle.std.specs.List.{list_all}
 use Rattle.std.specs.Str.{str_eq_ignore_ascii_case}
+use Rattle.tc_base.specs.declared.limits.TheConstants.{DEEPEST_NESTING, LONGEST_TAG}
 use Rattle.tc_model.specs.Names.{IsNcName, is_ncname_start}
 use Rattle.tc_model.specs.XmlTextBytes.{Lacks, BeginsWithWhite}
 use Rattle.tc_model.specs.XmlTextReferences.{is_plain}
@@ -61,12 +62,12 @@ Pends n (parts.Doctype known) kept pending =
     (cs : List ℕ) × (pending ≡ codes "<!DOCTYPE" ++ encode_utf8_all cs) × (doctypes.doctype_scan doctypes.begun cs ≡ doctypes.typing (typing_of known))
 Pends n (parts.Tag quote) kept pending =
     let bytes = kept.tag.bytes.items in
-    (pending ≡ bytes) × ((c : ℕ) × (rest : List ℕ) × (bytes ≡ 0x3C ∷ (encode_utf8 c ++ rest)) × (is_ncname_start c ≡ true)) × (tag_scan None bytes ≡ quoted quote) × (length bytes ≤ 65536)
-    × (length kept.elements.levels.items < 2000)
+    (pending ≡ bytes) × ((c : ℕ) × (rest : List ℕ) × (bytes ≡ 0x3C ∷ (encode_utf8 c ++ rest)) × (is_ncname_start c ≡ true)) × (tag_scan None bytes ≡ quoted quote) × (length bytes ≤ LONGEST_TAG)
+    × (length kept.elements.levels.items < DEEPEST_NESTING)
 Pends n parts.EndTag kept pending =
-    let bytes = kept.tag.bytes.items in (pending ≡ bytes) × ((rest : List ℕ) × (bytes ≡ codes "</" ++ rest)) × Lacks (0x3E ∷ []) bytes × (length bytes ≤ 65536)
-Pends n parts.DeepName kept pending = (name : List ℕ) × (pending ≡ 0x3C ∷ name) × IsNcName name × (length kept.elements.levels.items ≡ 2000)
-Pends n parts.DeepPrefix kept pending = (prefix : List ℕ) × (pending ≡ 0x3C ∷ (prefix ++ 0x3A ∷ [])) × IsNcName prefix × (length kept.elements.levels.items ≡ 2000)
+    let bytes = kept.tag.bytes.items in (pending ≡ bytes) × ((rest : List ℕ) × (bytes ≡ codes "</" ++ rest)) × Lacks (0x3E ∷ []) bytes × (length bytes ≤ LONGEST_TAG)
+Pends n parts.DeepName kept pending = (name : List ℕ) × (pending ≡ 0x3C ∷ name) × IsNcName name × (length kept.elements.levels.items ≡ DEEPEST_NESTING)
+Pends n parts.DeepPrefix kept pending = (prefix : List ℕ) × (pending ≡ 0x3C ∷ (prefix ++ 0x3A ∷ [])) × IsNcName prefix × (length kept.elements.levels.items ≡ DEEPEST_NESTING)
 
 -- where in a document this may have begun: a byte order mark never is behind it, and an XML declaration only behind what begins as one
 abbrev pub MayPend : Phase → Part → Type 0

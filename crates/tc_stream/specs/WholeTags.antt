@@ -1,5 +1,6 @@
 -- Tags that stand whole at the front of a text.
 use Rattle.std.specs.Prelude.{◌≡◌, ◌<◌, ◌≤◌, ◌+◌, ℕ, List, [], ◌∷◌, ◌++◌, length, take, codes}
+use Rattle.tc_base.specs.declared.limits.TheConstants.{LONGEST_TAG}
 use Rattle.tc_model.specs.RawTrees.{Bound}
 use Rattle.tc_model.specs.XmlTextNames.{QNameAt}
 use Rattle.tc_stream.specs.Goes.{Level}
@@ -11,7 +12,7 @@ use Rattle.tc_stream.specs.declared.elements.Elements.{Elements}
 pub record IsWholeStart (text : List ℕ) (count : ℕ) : Type 0 where
   pub some : 0 < count
   pub low : count ≤ length text
-  pub short : count ≤ 65536
+  pub short : count ≤ LONGEST_TAG
   pub tag : IsStartTag (take count text)
 
 -- they are `</`, this name and a `>`
@@ -19,7 +20,7 @@ pub record IsPlainEnd (name text : List ℕ) (count : ℕ) : Type 0 where
   pub after : List ℕ
   pub parts : text ≡ codes "</" ++ (name ++ 0x3E ∷ after)
   pub long : count ≡ length name + 3
-  pub short : count ≤ 65536
+  pub short : count ≤ LONGEST_TAG
 
 -- they are so with the name of the innermost element
 pub record IsEndOf (e : Elements) (text : List ℕ) (count : ℕ) : Type 0 where

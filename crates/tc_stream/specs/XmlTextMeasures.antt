@@ -1,6 +1,7 @@
 -- Two measures of an XML text that is read in pieces: how long its tags are, and how many bytes the names of its open elements have. What one piece
 -- after another can show stands here: where a measure passes its limit, and that nothing passes. The limits are parameters.
 use Rattle.std.specs.Prelude.{◌≡◌, ◌<◌, ◌≤◌, ◌⊎◌, ℕ, suc, ◌+◌, false, true, List, [], ◌∷◌, ◌++◌, None, length, take, codes, encode_utf8}
+use Rattle.tc_base.specs.declared.limits.TheConstants.{LONGEST_TAG, MOST_NAMES}
 use Rattle.tc_model.specs.Names.{is_ncname_start}
 use Rattle.tc_model.specs.RawTrees.{RawTrees, Bound}
 use Rattle.tc_model.specs.XmlTextBytes.{FrontOf, Lacks, place_of}
@@ -52,11 +53,11 @@ pub record PassesFirstWithin (longest most : ℕ) (bytes : List ℕ) (measure : 
 
 -- the most bytes of a tag
 abbrev pub longest_tag : ℕ
-longest_tag = 65536
+longest_tag = LONGEST_TAG
 
 -- the most bytes of the names of elements that are open
 abbrev pub most_names : ℕ
-most_names = 65536
+most_names = MOST_NAMES
 
 abbrev pub IsGood : List ℕ → RawTrees → Type 0
 IsGood bytes tree = IsGoodWithin longest_tag most_names bytes tree

@@ -1,5 +1,6 @@
 // What goes character by character: marks, references, targets, declarations (XML 1.0, 2.6, 2.8, 4.1).
 ghost use Rattle.std.specs.Prelude.{◌≡◌, ◌<◌, ◌≤◌, ◌&&◌, ℕ, List, Option, bytes_eq, codes, length, IfErr, IfOk, IsTrue, OnOk};
+ghost use Rattle.tc_base.specs.declared.limits.TheConstants.{LONGEST_FILE};
 ghost use Rattle.tc_stream.specs.Parts.{is_by_char};
 ghost use Rattle.tc_stream.specs.Phases.{is_front};
 ghost use Rattle.tc_stream.specs.Placed.{FaultsCharAt, ReadsCharAt};
@@ -45,7 +46,7 @@ impl Reader<'_> {
         requires by_char { IsTrue (is_by_char part) }
         requires some { 0 < length text.now }
         requires within { length text.now ≤ end }
-        requires low { end ≤ 67108864 }
+        requires low { end ≤ LONGEST_FILE }
         ensures ok { IfOk result (λ rest. ReadsOn self.old self.new text.now rest.now end) }
         ensures less { IfOk result (λ rest. length rest.now < length text.now) }
         ensures fault { IfErr result (λ e. FaultsOn self.old text.now end e) }

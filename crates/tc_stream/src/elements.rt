@@ -1,6 +1,7 @@
 // The elements that are open: their names, the prefixes in scope, and the validity of what has come.
 ghost use Rattle.std.specs.Prelude.{◌≡◌, ◌↔◌, ◌<◌, ◌≤◌, ◌+◌, ◌++◌, ◌∷◌, ℕ, List, [], true, false, length, IfOk, IfErr, OnOk, OnSome, IsTrue, IsFalse, MatchOption, codes, vec_capacity};
 ghost use Rattle.tc_auto.specs.Stands as a;
+ghost use Rattle.tc_base.specs.declared.limits.TheConstants.{DEEPEST_NESTING, LONGEST_TAG, MOST_NAMES};
 ghost use Rattle.tc_base.specs.declared.reasons.Why.{Why as Reason};
 ghost use Rattle.tc_model.specs.Grammars as g;
 ghost use Rattle.tc_model.specs.Names.{IsChars};
@@ -18,17 +19,17 @@ ghost use Rattle.tc_stream.specs.Goes as goes;
 ghost use Rattle.tc_tags.specs.Scoped.{chains_in};
 ghost use Rattle.tc_tags.specs.Written.{AreWritten};
 ghost use Rattle.tc_tags.specs.XmlTextTags.{TagFormAt, WrittenElement, written_length};
-ghost use Rattle.tc_tags.specs.declared.tags.TheConstants.{LONGEST_TAG};
 
 use std::alloc::Global;
 use tc_alpha::Alphabet;
 use tc_auto::Auto;
 use tc_base::NoMemory;
+use tc_base::limits::DEEPEST_NESTING;
 use tc_steps::Validity;
 use tc_tags::{Form, NoForm, Rooms, Span, WrittenName, form_of};
 
 /// How many elements may stand within one another.
-const DEEPEST: usize = 2_000;
+const DEEPEST: usize = DEEPEST_NESTING as usize;
 
 /// An element that is open: its name as it is written, and how many names and declarations there were before it.
 #[derive(Clone, Copy)]
@@ -72,9 +73,9 @@ pub(crate) struct Elements<'h> {
     validity: Validity<'h>,
     rooms: Rooms,
     levels: Vec<Level>,
-    ghost most: { rooms.names.most ≡ 65536 },
-    ghost room: { 2000 ≤ vec_capacity levels },
-    ghost all_levels: { length validity.levels.items ≡ 2000 },
+    ghost most: { rooms.names.most ≡ MOST_NAMES },
+    ghost room: { DEEPEST_NESTING ≤ vec_capacity levels },
+    ghost all_levels: { length validity.levels.items ≡ DEEPEST_NESTING },
     ghost depth: { validity.depth ≡ length levels.items },
 }
 
@@ -131,8 +132,8 @@ impl<'h> Elements<'h> {
 
     /// Whether no element may stand within those that are open.
     pub(crate) fn is_full(&self) -> bool
-        ensures full { IsTrue result ↔ (length self.now.levels.items ≡ 2000) }
-        ensures room { IsFalse result → length self.now.levels.items < 2000 }
+        ensures full { IsTrue result ↔ (length self.now.levels.items ≡ DEEPEST_NESTING) }
+        ensures room { IsFalse result → length self.now.levels.items < DEEPEST_NESTING }
     {
         self.levels.len() == DEEPEST
     }
@@ -179,7 +180,7 @@ impl<'h> Elements<'h> {
     /// Goes into the element of a tag whose names and declarations stand behind those that there were before its level,
     /// if the tag means something.
     fn step_into(&mut self, tag: &str, name: &WrittenName, level: Level) -> Option<()>
-        requires room { length self.old.levels.items < 2000 }
+        requires room { length self.old.levels.items < DEEPEST_NESTING }
         requires chained { self.old.rooms.scopes.chains.chains
             ≡ chains_in self.old.rooms.names.bytes.items self.old.rooms.scopes.declared.items }
         ensures names { self.new.rooms.names ≡ self.old.rooms.names }
@@ -204,7 +205,7 @@ impl<'h> Elements<'h> {
     /// Goes into the element of a tag.
     fn enter(&mut self, tag: &str, form: &Form) -> Result<(), NoElement>
         requires ready { IsReady self.old }
-        requires depth { length self.old.levels.items < 2000 }
+        requires depth { length self.old.levels.items < DEEPEST_NESTING }
         requires written { (e : WrittenElement) × FormRead tag.now form.now e
             × AreWritten tag.now self.old.rooms.attributes.list.items e.attributes }
         ensures ready { OnOk result (IsReady self.new) }
@@ -234,7 +235,7 @@ impl<'h> Elements<'h> {
     /// Goes into the element of a tag that is a name alone, which is kept behind the names that there were before its
     /// level, if the name means something.
     fn step_named(&mut self, tag: &str, name: &WrittenName, level: Level) -> Option<()>
-        requires room { length self.old.levels.items < 2000 }
+        requires room { length self.old.levels.items < DEEPEST_NESTING }
         requires chained { self.old.rooms.scopes.chains.chains
             ≡ chains_in self.old.rooms.names.bytes.items self.old.rooms.scopes.declared.items }
         ensures rooms { self.new.rooms ≡ self.old.rooms }
@@ -256,7 +257,7 @@ impl<'h> Elements<'h> {
     /// Goes into the element of a tag that is a name alone.
     pub(crate) fn enter_named(&mut self, tag: &str, form: &Form) -> Result<(), NoElement>
         requires ready { IsReady self.old }
-        requires depth { length self.old.levels.items < 2000 }
+        requires depth { length self.old.levels.items < DEEPEST_NESTING }
         requires named { IsNameAlone tag.now form.now }
         ensures ready { OnOk result (IsReady self.new) }
         ensures enters { OnOk result
@@ -291,7 +292,7 @@ impl<'h> Elements<'h> {
     /// Goes into an element with this tag, and out of it again where it is empty.
     pub(crate) fn start(&mut self, tag: &str, form: &Form) -> Result<(), NoElement>
         requires ready { IsReady self.old }
-        requires depth { length self.old.levels.items < 2000 }
+        requires depth { length self.old.levels.items < DEEPEST_NESTING }
         requires written { (e : WrittenElement) × FormRead tag.now form.now e
             × AreWritten tag.now self.old.rooms.attributes.list.items e.attributes }
         ensures ready { OnOk result (IsReady self.new) }

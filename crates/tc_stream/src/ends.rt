@@ -1,10 +1,16 @@
 // Comments, processing instructions, CDATA sections and character data, which have no bound: how far the bytes of a
 // text go in one, and what is known of it there (XML 1.0, 2.4 to 2.7).
-ghost use Rattle.std.specs.Prelude.{◌≤◌, ◌≡◌, ◌==◌, if◌then◌else◌};
+ghost use Rattle.std.specs.Prelude.{◌≤◌, ◌≡◌, ◌==◌, not, take, IfSome, IsTrue, if◌then◌else◌};
+ghost use Rattle.std.specs.List.{prefix_len};
+ghost use Rattle.tc_model.specs.XmlTextReferences.{is_plain};
 ghost use Rattle.tc_stream.specs.Ends.{TellsEnd, TellsData};
-ghost use Rattle.tc_stream.specs.Scans.{comment_scan, instruction_scan, cdata_scan};
+ghost use Rattle.tc_stream.specs.Scans.{comment_scan, instruction_scan, cdata_scan, going};
 
 use memchr::memchr;
+use tc_scan::{clear_len, plain_len};
+
+/// Fewer bytes than this are looked at one by one.
+const SHORT: usize = 16;
 
 /// Where a text ends something, or what is known at the text's end.
 #[derive(Clone, Copy)]
@@ -89,6 +95,49 @@ pub(crate) fn cdata_end(brackets: u8, text: &[u8]) -> Ended
     Ended::Not(count)
 }
 
+/// A run of character data at the front: how many bytes it has, and whether it is seen to have no `]`.
+#[derive(Clone, Copy)]
+pub(crate) struct Run {
+    pub(crate) count: usize,
+    pub(crate) is_clear: bool,
+}
+
+/// Whether a run of character data ends before this byte.
+fn ends_run(byte: u8) -> bool
+    ensures { result ≡ not (is_plain byte) }
+{
+    byte == b'<' || byte == b'&'
+}
+
+/// How many bytes the run of character data at the front has, where blocks show that it has no `]`.
+fn clear_run(bytes: &[u8]) -> Option<usize>
+    ensures { IfSome result (λ n. (n ≡ prefix_len is_plain bytes.now)
+        × (cdata_scan 0 (take n bytes.now) ≡ going 0)) }
+{
+    let count = clear_len(bytes)?;
+    if count >= bytes.len() || !ends_run(bytes[count]) {
+        return None;
+    }
+    Some(count)
+}
+
+/// The run of character data at the front.
+pub(crate) fn run_at(text: &str) -> Run
+    ensures count { result.count ≡ prefix_len is_plain text.now }
+    ensures clear { IsTrue result.is_clear → cdata_scan 0 (take result.count text.now) ≡ going 0 }
+{
+    match clear_run(text.as_bytes()) {
+        Some(count) => Run {
+            count,
+            is_clear: true,
+        },
+        None => Run {
+            count: plain_len(text),
+            is_clear: false,
+        },
+    }
+}
+
 /// The same as `data_end`, byte by byte.
 fn data_end_by_bytes(brackets: u8, run: &[u8]) -> Option<u8>
     requires { brackets ≤ 2 }
@@ -102,12 +151,19 @@ fn data_end_by_bytes(brackets: u8, run: &[u8]) -> Option<u8>
 }
 
 /// Whether character data that ends with so many closing brackets may go on with this run, and with how many it ends
-/// then: `]]>` may not stand in it.
-pub(crate) fn data_end(brackets: u8, run: &[u8]) -> Option<u8>
-    requires { brackets ≤ 2 }
+/// then: `]]>` may not stand in it. A clear run is seen to have no closing bracket.
+pub(crate) fn data_end(brackets: u8, run: &[u8], is_clear: bool) -> Option<u8>
+    requires few { brackets ≤ 2 }
+    requires clear { IsTrue is_clear → cdata_scan 0 run.now ≡ going 0 }
     ensures { TellsData result (cdata_scan brackets run.now) }
 {
     if brackets > 0 {
+        return data_end_by_bytes(brackets, run);
+    }
+    if is_clear {
+        return Some(0);
+    }
+    if run.len() < SHORT {
         return data_end_by_bytes(brackets, run);
     }
     match memchr(b']', run) {

@@ -1,5 +1,6 @@
 // The pieces of a document: a cut between two of them may part a character (RFC 3629, 4).
 ghost use Rattle.std.specs.Prelude.{◌≡◌, ◌<◌, ◌≤◌, ◌+◌, ◌++◌, ◌↔◌, ℕ, List, [], length, slice_index, IfOk, IfErr, OnErr, IsTrue};
+ghost use Rattle.tc_base.specs.declared.limits.TheConstants.{LONGEST_FILE};
 ghost use Rattle.tc_model.specs.Grammars as g;
 ghost use Rattle.tc_model.specs.Names.{IsChars};
 ghost use Rattle.tc_model.specs.RawTrees.{RawTrees};
@@ -28,7 +29,7 @@ fn take_behind(
 ) -> Result<(), StreamFault>
     requires ready { IsReading reader.old }
     requires none { cut_bytes cut.old ≡ [] }
-    requires low { place ≤ 67108864 }
+    requires low { place ≤ LONGEST_FILE }
     ensures ready { IfOk result (λ _. IsReading reader.new) }
     ensures within { length (cut_bytes cut.new) ≤ length bytes.now }
     ensures short { IsCutShort (cut_bytes cut.new) }
@@ -61,7 +62,7 @@ fn take_whole(
 ) -> Result<(), StreamFault>
     requires ready { IsReading reader.old }
     requires none { cut_bytes cut.old ≡ [] }
-    requires room { at + length bytes.now ≤ 67108864 }
+    requires room { at + length bytes.now ≤ LONGEST_FILE }
     ensures ready { IfOk result (λ _. IsReading reader.new) }
     ensures within { length (cut_bytes cut.new) ≤ length bytes.now }
     ensures short { IsCutShort (cut_bytes cut.new) }
@@ -111,7 +112,7 @@ fn take_joined(
 ) -> Result<(), StreamFault>
     requires ready { IsReading reader.old }
     requires none { cut_bytes cut.old ≡ [] }
-    requires room { at + length text.now + length bytes.now ≤ 67108864 }
+    requires room { at + length text.now + length bytes.now ≤ LONGEST_FILE }
     ensures ready { IfOk result (λ _. IsReading reader.new) }
     ensures within { length (cut_bytes cut.new) ≤ length bytes.now }
     ensures short { IsCutShort (cut_bytes cut.new) }
@@ -140,7 +141,7 @@ fn take_cut(
     requires ready { IsReading reader.old }
     requires some { 0 < length (cut_bytes cut.old) }
     requires short { IsCutShort (cut_bytes cut.old) }
-    requires room { at + length (cut_bytes cut.old) + length bytes.now ≤ 67108864 }
+    requires room { at + length (cut_bytes cut.old) + length bytes.now ≤ LONGEST_FILE }
     ensures ready { IfOk result (λ _. IsReading reader.new) }
     ensures within { length (cut_bytes cut.new) ≤ length (cut_bytes cut.old) + length bytes.now }
     ensures short { IsCutShort (cut_bytes cut.new) }
@@ -180,7 +181,7 @@ pub(crate) fn take(
     requires ready { IsReading reader.old }
     requires within { length (cut_bytes cut.old) ≤ fed }
     requires short { IsCutShort (cut_bytes cut.old) }
-    requires room { fed + length piece.now ≤ 67108864 }
+    requires room { fed + length piece.now ≤ LONGEST_FILE }
     ensures ready { IfOk result (λ _. IsReading reader.new) }
     ensures within { length (cut_bytes cut.new) ≤ fed + length piece.now }
     ensures short { IsCutShort (cut_bytes cut.new) }
@@ -205,7 +206,7 @@ pub(crate) fn take(
 /// The end of a text at a place.
 pub(crate) fn finished(reader: &mut Reader<'_>, cut: Cut, fed: u32) -> Result<bool, StreamFault>
     requires within { length (cut_bytes cut) ≤ fed }
-    requires room { fed ≤ 67108864 }
+    requires room { fed ≤ LONGEST_FILE }
     ensures ok { (x : g.Grammar) (chars : List ℕ) → IsStart x.start
         → length chars + length (cut_bytes cut) ≡ fed → ReadsTo x reader.old chars
         → IfOk result

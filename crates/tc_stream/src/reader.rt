@@ -1,5 +1,6 @@
 // How far a text of characters has been read.
 ghost use Rattle.std.specs.Prelude.{◌≡◌, ◌≤◌, IsTrue};
+ghost use Rattle.tc_base.specs.declared.limits.TheConstants.{LONGEST_FILE, LONGEST_TAG};
 ghost use Rattle.tc_stream.specs.Counted.{is_counted};
 
 use crate::elements::Elements;
@@ -9,7 +10,8 @@ use std::alloc::Global;
 use tc_alpha::Alphabet;
 use tc_auto::Auto;
 use tc_base::NoMemory;
-use tc_tags::{LONGEST_TAG, Room};
+use tc_base::limits::LONGEST_TAG;
+use tc_tags::Room;
 
 /// What is kept of a text of characters that comes in pieces: the elements that are open, one tag, which part of a
 /// document is read, what has begun and hasn't ended, and where it begins.
@@ -20,8 +22,8 @@ pub(crate) struct Reader<'h> {
     pub(crate) phase: Phase,
     pub(crate) part: Part,
     pub(crate) begun: u32,
-    ghost begun_within: { begun ≤ 67108864 },
-    ghost tag_room: { tag.most ≡ 65536 },
+    ghost begun_within: { begun ≤ LONGEST_FILE },
+    ghost tag_room: { tag.most ≡ LONGEST_TAG },
     ghost counted: { IsTrue (is_counted part) },
 }
 

@@ -1,6 +1,7 @@
 // How a text goes on, item by item (XML 1.0, 2.1, 2.4 to 2.8, 3.1).
-ghost use Rattle.std.specs.Prelude.{◌≡◌, ◌≢◌, ◌<◌, ◌≤◌, ◌+◌, ◌-◌, ◌++◌, ◌∷◌, ℕ, List, [], length, replicate, take, IfOk, IfErr, OnOk};
+ghost use Rattle.std.specs.Prelude.{◌≡◌, ◌≢◌, ◌<◌, ◌≤◌, ◌+◌, ◌-◌, ◌++◌, ◌∷◌, ℕ, List, [], length, replicate, take, IfOk, IfErr, IsTrue, OnOk};
 ghost use Rattle.std.specs.List.{prefix_len};
+ghost use Rattle.tc_base.specs.declared.limits.TheConstants.{LONGEST_FILE};
 ghost use Rattle.tc_model.specs.Trees as t;
 ghost use Rattle.tc_model.specs.XmlTextBytes as xml;
 ghost use Rattle.tc_model.specs.XmlTextReferences.{is_plain};
@@ -8,7 +9,7 @@ ghost use Rattle.tc_stream.specs.Reading.{FaultsOn, IsOpen, ReadsOn, TakesText, 
 ghost use Rattle.tc_stream.specs.Scans.{before, cdata_scan, going};
 ghost use Rattle.tc_stream.specs.Stands.{IsReading};
 
-use crate::ends::{Ended, cdata_end, comment_end, data_end, instruction_end};
+use crate::ends::{Ended, cdata_end, comment_end, data_end, instruction_end, run_at};
 use crate::faults::StreamFault;
 use crate::items::is_section_white;
 use crate::parts::Part;
@@ -17,7 +18,7 @@ use crate::reader::Reader;
 use crate::references::Reference;
 use tc_base::Place;
 use tc_model::is_white_space_only;
-use tc_scan::{after_byte, after_mark, after_white, plain_len};
+use tc_scan::{after_byte, after_mark, after_white};
 
 /// The place behind which a text stands whose end is at a place.
 pub(crate) fn place_of(end: u32, text: &str) -> u32
@@ -53,7 +54,7 @@ impl Reader<'_> {
     pub(crate) fn read_all(&mut self, text: &str, end: u32) -> Result<(), StreamFault>
         requires ready { IsReading self.old }
         requires within { length text.now ≤ end }
-        requires low { end ≤ 67108864 }
+        requires low { end ≤ LONGEST_FILE }
         ensures ok { IfOk result (λ _. ReadsOn self.old self.new text.now [] end) }
         ensures fault { IfErr result (λ e. FaultsOn self.old text.now end e) }
     {
@@ -69,7 +70,7 @@ impl Reader<'_> {
         requires ready { IsReading self.old }
         requires some { 0 < length text.now }
         requires within { length text.now ≤ end }
-        requires low { end ≤ 67108864 }
+        requires low { end ≤ LONGEST_FILE }
         ensures ok { IfOk result (λ rest. ReadsOn self.old self.new text.now rest.now end) }
         ensures less { IfOk result (λ rest. length rest.now < length text.now) }
         ensures fault { IfErr result (λ e. FaultsOn self.old text.now end e) }
@@ -95,7 +96,7 @@ impl Reader<'_> {
         requires part { self.old.part ≡ Part.Between }
         requires some { 0 < length text.now }
         requires within { length text.now ≤ end }
-        requires low { end ≤ 67108864 }
+        requires low { end ≤ LONGEST_FILE }
         ensures ok { IfOk result (λ rest. ReadsOn self.old self.new text.now rest.now end) }
         ensures less { IfOk result (λ rest. length rest.now < length text.now) }
         ensures fault { IfErr result (λ e. FaultsOn self.old text.now end e) }
@@ -114,7 +115,7 @@ impl Reader<'_> {
         requires front { self.old.phase ≡ Phase.Mark }
         requires some { 0 < length text.now }
         requires within { length text.now ≤ end }
-        requires low { end ≤ 67108864 }
+        requires low { end ≤ LONGEST_FILE }
         ensures ok { IfOk result (λ rest. ReadsOn self.old self.new text.now rest.now end) }
         ensures less { IfOk result (λ rest. length rest.now < length text.now) }
         ensures fault { IfErr result (λ e. FaultsOn self.old text.now end e) }
@@ -137,7 +138,7 @@ impl Reader<'_> {
             ≡ 0xEF ∷ 0xBB ∷ 0xBF ∷ r → ⊥ }
         requires some { 0 < length text.now }
         requires within { length text.now ≤ end }
-        requires low { end ≤ 67108864 }
+        requires low { end ≤ LONGEST_FILE }
         ensures ok { IfOk result (λ rest. ReadsOn self.old self.new text.now rest.now end) }
         ensures less { IfOk result (λ rest. length rest.now < length text.now) }
         ensures fault { IfErr result (λ e. FaultsOn self.old text.now end e) }
@@ -161,7 +162,7 @@ impl Reader<'_> {
         requires bare { length text.now ≤ length (xml.after_white text.now) }
         requires some { 0 < length text.now }
         requires within { length text.now ≤ end }
-        requires low { end ≤ 67108864 }
+        requires low { end ≤ LONGEST_FILE }
         ensures ok { IfOk result (λ rest. ReadsOn self.old self.new text.now rest.now end) }
         ensures less { IfOk result (λ rest. length rest.now < length text.now) }
         ensures fault { IfErr result (λ e. FaultsOn self.old text.now end e) }
@@ -185,18 +186,19 @@ impl Reader<'_> {
         requires content { self.old.phase ≡ Phase.Content }
         requires some { 0 < length text.now }
         requires within { length text.now ≤ end }
-        requires low { end ≤ 67108864 }
+        requires low { end ≤ LONGEST_FILE }
         ensures ok { IfOk result (λ rest. ReadsOn self.old self.new text.now rest.now end) }
         ensures less { IfOk result (λ rest. length rest.now < length text.now) }
         ensures fault { IfErr result (λ e. FaultsOn self.old text.now end e) }
     {
-        let count = plain_len(text);
+        let front = run_at(text);
+        let count = front.count;
         if count == 0 {
             return self.begin_reference(text, end);
         }
         let (run, rest) = text.split_at(count);
         self.begun = place_of(end, text);
-        self.read_run(run, 0)?;
+        self.read_run(run, 0, front.is_clear)?;
         Ok(rest)
     }
 
@@ -211,17 +213,18 @@ impl Reader<'_> {
         requires part { self.old.part ≡ Part.Data brackets }
         requires some { 0 < length text.now }
         requires within { length text.now ≤ end }
-        requires low { end ≤ 67108864 }
+        requires low { end ≤ LONGEST_FILE }
         ensures ok { IfOk result (λ rest. ReadsOn self.old self.new text.now rest.now end) }
         ensures less { IfOk result (λ rest. length rest.now < length text.now) }
         ensures fault { IfErr result (λ e. FaultsOn self.old text.now end e) }
     {
-        let count = plain_len(text);
+        let front = run_at(text);
+        let count = front.count;
         if count == 0 {
             return self.begin_reference(text, end);
         }
         let (run, rest) = text.split_at(count);
-        self.read_run(run, brackets)?;
+        self.read_run(run, brackets, front.is_clear)?;
         Ok(rest)
     }
 
@@ -232,7 +235,7 @@ impl Reader<'_> {
         requires bare { prefix_len is_plain text.now ≡ 0 }
         requires some { 0 < length text.now }
         requires within { length text.now ≤ end }
-        requires low { end ≤ 67108864 }
+        requires low { end ≤ LONGEST_FILE }
         ensures ok { IfOk result (λ rest. ReadsOn self.old self.new text.now rest.now end) }
         ensures less { IfOk result (λ rest. length rest.now < length text.now) }
         ensures fault { IfErr result (λ e. FaultsOn self.old text.now end e) }
@@ -259,7 +262,7 @@ impl Reader<'_> {
         requires no_reference { (r : List ℕ) → text.now ≡ 0x26 ∷ r → ⊥ }
         requires some { 0 < length text.now }
         requires within { length text.now ≤ end }
-        requires low { end ≤ 67108864 }
+        requires low { end ≤ LONGEST_FILE }
         ensures ok { IfOk result (λ rest. ReadsOn self.old self.new text.now rest.now end) }
         ensures less { IfOk result (λ rest. length rest.now < length text.now) }
         ensures fault { IfErr result (λ e. FaultsOn self.old text.now end e) }
@@ -275,9 +278,10 @@ impl Reader<'_> {
         }
     }
 
-    /// Reads a run of character data behind so many closing brackets.
-    fn read_run(&mut self, run: &str, brackets: u8) -> Result<(), StreamFault>
-        requires { brackets ≤ 2 }
+    /// Reads a run of character data behind so many closing brackets. A clear one is seen to have none.
+    fn read_run(&mut self, run: &str, brackets: u8, is_clear: bool) -> Result<(), StreamFault>
+        requires few { brackets ≤ 2 }
+        requires clear { IsTrue is_clear → cdata_scan 0 run.now ≡ going 0 }
         ensures ok { OnOk result ((known : ℕ) × (self.new.part ≡ Part.Data known)
             × (cdata_scan brackets run.now ≡ going known)) }
         ensures elements { OnOk result
@@ -287,7 +291,7 @@ impl Reader<'_> {
         ensures no { IfErr result (λ e. (e ≡ StreamFault.Malformed (record { 0 = self.old.begun }))
             × ((found : List ℕ) × (cdata_scan brackets run.now ≡ before found))) }
     {
-        let Some(known) = data_end(brackets, run.as_bytes()) else {
+        let Some(known) = data_end(brackets, run.as_bytes(), is_clear) else {
             return Err(malformed(self.begun));
         };
         self.take_text(is_white_space_only(run));

@@ -1,5 +1,6 @@
 // Where a text ends, or goes on with what is no character of XML (XML 1.0, 2.1, 2.2).
 ghost use Rattle.std.specs.Prelude.{◌≡◌, ◌≢◌, ◌≤◌, ◌++◌, ℕ, List, [], length};
+ghost use Rattle.tc_base.specs.declared.limits.TheConstants.{LONGEST_FILE};
 ghost use Rattle.tc_model.specs.Grammars as g;
 ghost use Rattle.tc_stream.specs.Cuts.{BeginsNoChar};
 ghost use Rattle.tc_stream.specs.Faults.{IsFaultOf};
@@ -15,7 +16,7 @@ use tc_base::Place;
 impl Reader<'_> {
     /// The fault of a text that has come to its end, or to what is no character of XML, at a place.
     pub(crate) fn stopped(&mut self, place: u32) -> StreamFault
-        requires low { place ≤ 67108864 }
+        requires low { place ≤ LONGEST_FILE }
         ensures { (x : g.Grammar) (chars r : List ℕ) → ReadsTo x self.old chars → length chars
             ≡ place → BeginsNoChar r
             → (self.old.part ≡ Part.Between → self.old.phase ≡ Phase.End → r ≢ [])

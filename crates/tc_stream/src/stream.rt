@@ -1,5 +1,6 @@
 // A document that comes in pieces.
 ghost use Rattle.std.specs.Prelude.{◌≡◌, ◌≤◌, ◌<◌, length, slice_index, None};
+ghost use Rattle.tc_base.specs.declared.limits.TheConstants.{LONGEST_FILE, MOST_INPUT_STATES};
 ghost use Rattle.tc_stream.specs.Cuts.{char_length, cut_bytes};
 ghost use Rattle.tc_stream.specs.Stands.{IsReading};
 
@@ -23,7 +24,7 @@ pub struct Stream<'h> {
     cut: Cut,
     fed: u32,
     fault: Option<StreamFault>,
-    ghost fed_within: { fed ≤ 67108864 },
+    ghost fed_within: { fed ≤ LONGEST_FILE },
     ghost cut_within: { length (cut_bytes cut) ≤ fed },
     ghost cut_short: { 0 < length (cut_bytes cut) → length (cut_bytes cut) < char_length (slice_index (cut_bytes cut) 0) },
     ghost ready: { fault ≡ None → IsReading reader },
@@ -58,7 +59,7 @@ impl<'h> Stream<'h> {
         auto: &'h Auto<'h>,
         alphabet: &'h Alphabet,
     ) -> Result<Stream<'h>, NoMemory>
-        requires { a.states auto.now ≤ 512 }
+        requires { a.states auto.now ≤ MOST_INPUT_STATES }
         ensures none { IfOk result (λ r. (fed_of r ≡ 0) × (fault_found r ≡ None)) }
         ensures stands { IfOk result (λ r. (x other : g.Grammar) (sheet : sh.Sheet)
             → a.Stands s.input x auto.now → IsStart x.start
@@ -76,7 +77,7 @@ impl<'h> Stream<'h> {
     /// Adds a piece to the text of a stream without a fault.
     fn advance(&mut self, piece: &[u8]) -> Result<(), StreamFault>
         requires none { fault_found self.old ≡ None }
-        requires room { fed_of self.old + length piece.now ≤ 67108864 }
+        requires room { fed_of self.old + length piece.now ≤ LONGEST_FILE }
         ensures ok { (x : g.Grammar) (text : List ℕ) → StandsFor x self.old text
             → OnOk result (StandsFor x self.new (text ++ piece.now)) }
         ensures fault { (x : g.Grammar) (text : List ℕ) → StandsFor x self.old text
@@ -105,7 +106,7 @@ impl<'h> Stream<'h> {
     /// Whatever follows the piece, the text isn't good, for this reason. The piece isn't counted, and every later call
     /// answers the same.
     pub fn feed(&mut self, piece: &[u8]) -> Result<(), StreamFault>
-        requires { fed_of self.old + length piece.now ≤ 67108864 }
+        requires { fed_of self.old + length piece.now ≤ LONGEST_FILE }
         ensures ok { OnOk result ((x : g.Grammar) (text : List ℕ) → StandsFor x self.old text
             → StandsFor x self.new (text ++ piece.now)) }
         ensures fault { IfErr result (λ e. (x : g.Grammar) (text : List ℕ)

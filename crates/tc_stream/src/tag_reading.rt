@@ -1,5 +1,6 @@
 // How a tag goes on, which is kept until its end and read whole (XML 1.0, 3.1).
 ghost use Rattle.std.specs.Prelude.{◌≡◌, ◌≢◌, ◌<◌, ◌≤◌, ◌+◌, ◌++◌, ◌∷◌, ℕ, List, [], Option, length, take, drop, IfOk, IfErr, IsCharBoundary};
+ghost use Rattle.tc_base.specs.declared.limits.TheConstants.{DEEPEST_NESTING, LONGEST_FILE, LONGEST_TAG};
 ghost use Rattle.tc_model.specs.Grammars as g;
 ghost use Rattle.tc_model.specs.Names.{IsChars};
 ghost use Rattle.tc_model.specs.XmlTextBytes.{Lacks};
@@ -54,8 +55,8 @@ pub(crate) fn scan_tag(quote: Option<u8>, bytes: &[u8]) -> Scanned
 
 /// The place in the whole of a place in a tag of so many bytes, which stands at a place.
 fn place_in(begun: u32, at: usize, count: usize) -> u32
-    requires low { begun ≤ 67108864 }
-    requires few { count ≤ 65536 }
+    requires low { begun ≤ LONGEST_FILE }
+    requires few { count ≤ LONGEST_TAG }
     ensures within { result ≤ begun + count }
     ensures here { at ≤ count → result ≡ begun + at }
 {
@@ -64,8 +65,8 @@ fn place_in(begun: u32, at: usize, count: usize) -> u32
 
 /// The fault of a tag that isn't read for this reason.
 fn fault_of(stop: NoForm, begun: u32, count: usize) -> StreamFault
-    requires low { begun ≤ 67108864 }
-    requires few { count ≤ 65536 }
+    requires low { begun ≤ LONGEST_FILE }
+    requires few { count ≤ LONGEST_TAG }
     ensures { TellsFault result stop begun count }
 {
     match stop {
@@ -78,8 +79,8 @@ fn fault_of(stop: NoForm, begun: u32, count: usize) -> StreamFault
 
 /// The fault of a start tag or an empty-element tag of which no more than these characters come.
 fn tag_fault(elements: &mut Elements<'_>, tag: &str, begun: u32) -> StreamFault
-    requires low { begun ≤ 67108864 }
-    requires short { length tag.now ≤ 65536 }
+    requires low { begun ≤ LONGEST_FILE }
+    requires short { length tag.now ≤ LONGEST_TAG }
     ensures { TagTold result tag.now begun }
 {
     match elements.form(tag) {
@@ -101,8 +102,8 @@ pub(crate) fn no_element_fault(reason: NoElement, begun: u32) -> StreamFault
 /// Goes into the element with this tag, which is read, and out of it again where it is empty.
 fn enter(elements: &mut Elements<'_>, tag: &str, form: &Form, begun: u32) -> Result<(), StreamFault>
     requires ready { IsReady elements.old }
-    requires room { length elements.old.levels.items < 2000 }
-    requires short { length tag.now ≤ 65536 }
+    requires room { length elements.old.levels.items < DEEPEST_NESTING }
+    requires short { length tag.now ≤ LONGEST_TAG }
     requires written { (e : WrittenElement) × FormRead tag.now form.now e
         × AreWritten tag.now elements.old.rooms.attributes.list.items e.attributes }
     ensures ready { IfOk result (λ _. IsReady elements.new) }
@@ -123,14 +124,15 @@ fn enter(elements: &mut Elements<'_>, tag: &str, form: &Form, begun: u32) -> Res
 /// stand too deep.
 pub(crate) fn start(elements: &mut Elements<'_>, tag: &str, begun: u32) -> Result<(), StreamFault>
     requires ready { IsReady elements.old }
-    requires low { begun ≤ 67108864 }
-    requires short { length tag.now ≤ 65536 }
+    requires low { begun ≤ LONGEST_FILE }
+    requires short { length tag.now ≤ LONGEST_TAG }
     ensures ready { IfOk result (λ _. IsReady elements.new) }
     ensures ok { (x : g.Grammar) (chars : List ℕ) → IsStartTag tag.now
         → TagStands x elements.old begun tag.now chars
         → IfOk result (λ _. StandsBehind x elements.new chars) }
     ensures fault { (x : g.Grammar) (chars : List ℕ) → IsStartTag tag.now
-        → TagStands x elements.old begun tag.now chars → length elements.old.levels.items < 2000
+        → TagStands x elements.old begun tag.now chars
+        → length elements.old.levels.items < DEEPEST_NESTING
         → IfErr result (λ e. IsFaultOfFront chars e) }
 {
     if elements.is_full() {
@@ -145,7 +147,7 @@ pub(crate) fn start(elements: &mut Elements<'_>, tag: &str, begun: u32) -> Resul
 /// Goes out of the element whose end tag this is.
 fn end(elements: &mut Elements<'_>, tag: &str, begun: u32) -> Result<(), StreamFault>
     requires ready { IsReady elements.old }
-    requires short { length tag.now ≤ 65536 }
+    requires short { length tag.now ≤ LONGEST_TAG }
     ensures ready { IfOk result (λ _. IsReady elements.new) }
     ensures ok { (x : g.Grammar) (chars : List ℕ) → IsEndTag tag.now
         → (t : TagStands x elements.old begun tag.now chars) → t.ls ≢ []
@@ -215,7 +217,7 @@ impl Reader<'_> {
             → IfOk result (λ _. ReadsTo x self.new chars) }
         ensures fault { (x : g.Grammar) (chars : List ℕ) → IsStartTag self.old.tag.bytes.items
             → TagStands x self.old.elements self.old.begun self.old.tag.bytes.items chars
-            → length self.old.elements.levels.items < 2000
+            → length self.old.elements.levels.items < DEEPEST_NESTING
             → IfErr result (λ e. IsFaultOfFront chars e) }
     {
         let tag = text_of(self.tag.bytes());

@@ -1,6 +1,7 @@
 // Tags in content that stand whole at the front of a text: they are read where they stand (XML 1.0, 3.1).
 ghost use Rattle.std.specs.Prelude.{◌≡◌, ◌<◌, ◌≤◌, ◌++◌, ◌∷◌, ℕ, List, length, IfOk, IfErr, IfSome};
 ghost use Rattle.std.specs.List.{prefix_len};
+ghost use Rattle.tc_base.specs.declared.limits.TheConstants.{DEEPEST_NESTING, LONGEST_FILE};
 ghost use Rattle.tc_model.specs.Grammars as g;
 ghost use Rattle.tc_model.specs.XmlTextReferences.{is_plain};
 ghost use Rattle.tc_stream.specs.Faults.{IsFaultOfFront};
@@ -16,8 +17,9 @@ use crate::faults::StreamFault;
 use crate::reader::Reader;
 use crate::reading::place_of;
 use crate::tag_reading::{Scanned, no_element_fault, scan_tag, start};
+use tc_base::limits::LONGEST_TAG;
 use tc_scan::{after_byte, after_mark, first_char, is_ncname_start, ncname};
-use tc_tags::{Form, LONGEST_TAG, Span, WrittenName};
+use tc_tags::{Form, Span, WrittenName};
 
 /// A start tag or an empty-element tag that stands whole at the front: how many bytes it has, and its form if it is a
 /// name alone.
@@ -110,8 +112,8 @@ fn start_named(
     begun: u32,
 ) -> Result<(), StreamFault>
     requires ready { IsReady elements.old }
-    requires room { length elements.old.levels.items < 2000 }
-    requires short { length tag.now ≤ 65536 }
+    requires room { length elements.old.levels.items < DEEPEST_NESTING }
+    requires short { length tag.now ≤ LONGEST_TAG }
     requires named { IsNameAlone tag.now form.now }
     ensures ready { IfOk result (λ _. IsReady elements.new) }
     ensures ok { (x : g.Grammar) (chars : List ℕ) → TagStands x elements.old begun tag.now chars
@@ -134,9 +136,9 @@ fn start_by(
     begun: u32,
 ) -> Result<(), StreamFault>
     requires ready { IsReady elements.old }
-    requires room { length elements.old.levels.items < 2000 }
-    requires low { begun ≤ 67108864 }
-    requires short { length tag.now ≤ 65536 }
+    requires room { length elements.old.levels.items < DEEPEST_NESTING }
+    requires low { begun ≤ LONGEST_FILE }
+    requires short { length tag.now ≤ LONGEST_TAG }
     requires named { IfSome named.now (λ f. IsNameAlone tag.now f) }
     ensures ready { IfOk result (λ _. IsReady elements.new) }
     ensures ok { (x : g.Grammar) (chars : List ℕ) → IsStartTag tag.now
@@ -164,7 +166,8 @@ impl Reader<'_> {
     /// within those that are open.
     fn start_at(&self, text: &str) -> Option<WholeStart>
         ensures tag { IfSome result (IsStartOf text.now) }
-        ensures room { IfSome result (λ _. length self.now.elements.levels.items < 2000) }
+        ensures room { IfSome result
+            (λ _. length self.now.elements.levels.items < DEEPEST_NESTING) }
     {
         if self.elements.is_full() {
             return None;
@@ -199,9 +202,9 @@ impl Reader<'_> {
         requires ready { IsReading self.old }
         requires open_here { IsOpen self.old }
         requires tag { IsStartOf text.now tag.now }
-        requires room { length self.old.elements.levels.items < 2000 }
+        requires room { length self.old.elements.levels.items < DEEPEST_NESTING }
         requires within { length text.now ≤ end }
-        requires low { end ≤ 67108864 }
+        requires low { end ≤ LONGEST_FILE }
         ensures ok { IfOk result (λ rest. ReadsOn self.old self.new text.now rest.now end) }
         ensures less { IfOk result (λ rest. length rest.now < length text.now) }
         ensures fault { IfErr result (λ e. FaultsOn self.old text.now end e) }
@@ -220,7 +223,7 @@ impl Reader<'_> {
         requires no_reference { (r : List ℕ) → text.now ≡ 0x26 ∷ r → ⊥ }
         requires some { 0 < length text.now }
         requires within { length text.now ≤ end }
-        requires low { end ≤ 67108864 }
+        requires low { end ≤ LONGEST_FILE }
         ensures ok { IfOk result (λ rest. ReadsOn self.old self.new text.now rest.now end) }
         ensures less { IfOk result (λ rest. length rest.now < length text.now) }
         ensures fault { IfErr result (λ e. FaultsOn self.old text.now end e) }
@@ -239,7 +242,7 @@ impl Reader<'_> {
         requires no_reference { (r : List ℕ) → text.now ≡ 0x26 ∷ r → ⊥ }
         requires some { 0 < length text.now }
         requires within { length text.now ≤ end }
-        requires low { end ≤ 67108864 }
+        requires low { end ≤ LONGEST_FILE }
         ensures ok { IfOk result (λ rest. ReadsOn self.old self.new text.now rest.now end) }
         ensures less { IfOk result (λ rest. length rest.now < length text.now) }
         ensures fault { IfErr result (λ e. FaultsOn self.old text.now end e) }

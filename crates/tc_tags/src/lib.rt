@@ -16,5 +16,5 @@ pub use distinct::all_differ;
 pub use names::{Room, Span, WrittenName};
 pub use rooms::{Rooms, text_of};
 pub use scopes::Scopes;
-pub use tags::{Form, LONGEST_TAG, NoForm, form_of, is_end_tag, is_plain_end_tag};
+pub use tags::{Form, NoForm, form_of, is_end_tag, is_plain_end_tag};
 pub use values::push_char;

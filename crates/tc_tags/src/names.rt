@@ -4,9 +4,6 @@ ghost use Rattle.tc_tags.specs.Spans.{at_span};
 
 use std::alloc::{AllocError, Global};
 
-/// The most bytes that the names of open elements have.
-pub(crate) const MOST_NAMES: usize = 65_536;
-
 /// Where bytes stand: their first place, and how many they are.
 #[derive(Clone, Copy)]
 pub struct Span {

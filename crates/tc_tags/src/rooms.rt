@@ -15,11 +15,12 @@ ghost use Rattle.tc_tags.specs.XmlTextTags.{declared_length};
 ghost use Rattle.tc_tags.specs.declared.scopes.TheConstants.{MOST_DECLARED};
 
 use crate::attributes::{Attribute, Attributes};
-use crate::names::{MOST_NAMES, Room, Span, WrittenName};
+use crate::names::{Room, Span, WrittenName};
 use crate::scopes::{Declared, Scopes, XML};
 use crate::values::push_value;
 use simdutf8::compat::from_utf8;
 use std::alloc::{AllocError, Global};
+use tc_base::limits::MOST_NAMES;
 use tc_model::Name;
 
 /// The namespace of namespace declarations.
@@ -169,7 +170,7 @@ impl Rooms {
     /// No name.
     pub fn new(alloc: Global) -> Result<Rooms, AllocError>
         ensures names { IfOk result (λ r. r.names.bytes.items ≡ []) }
-        ensures most { IfOk result (λ r. r.names.most ≡ 65536) }
+        ensures most { IfOk result (λ r. r.names.most ≡ MOST_NAMES) }
         ensures declared { IfOk result (λ r. r.scopes.declared.items ≡ []) }
         ensures chains { IfOk result (λ r. r.scopes.chains.chains ≡ []) }
     {

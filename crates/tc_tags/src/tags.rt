@@ -1,5 +1,6 @@
 // Tags by their form (XML 1.0, 3.1, [40] to [42] and [44]).
 ghost use Rattle.std.specs.Prelude.{◌≡◌, ◌+◌, ◌-◌, ◌≤◌, ◌∷◌, ◌++◌, [], ℕ, List, true, false, length, IfOk, IfErr, IfSome, IsTrue, IsUtf8, MatchBool, MatchOption, codes, if◌then◌else◌};
+ghost use Rattle.tc_base.specs.declared.limits.TheConstants.{LONGEST_TAG};
 ghost use Rattle.tc_base.specs.declared.reasons.Why.{Why as Reason};
 ghost use Rattle.tc_base.specs.declared.reasons.Why.TheVariants.{EntityReference};
 ghost use Rattle.tc_model.specs.XmlTextBytes as bytes;
@@ -21,9 +22,6 @@ use tc_scan::{
     NoReference, QualifiedName, after_byte, after_equals, after_mark, after_some_white,
     after_white, begins, plain_len_within, qname, quote, reference,
 };
-
-/// The most bytes of a tag.
-pub const LONGEST_TAG: usize = 65_536;
 
 /// A start tag or an empty-element tag by its form, its attributes in the table.
 #[derive(Clone, Copy)]

@@ -2,6 +2,7 @@
 // frames stay small: elements nest 2,000 deep.
 ghost use Rattle.std.specs.Prelude.{◌≡◌, ◌<◌, ◌≤◌, ◌∷◌, ◌++◌, [], ℕ, List, true, false, map, take, IfOk, IfErr, IfSome, OnOk, IsTrue, MatchBool, MatchOption, encode_utf8, codes, string_bytes};
 ghost use Rattle.std.specs.List.{prefix_len};
+ghost use Rattle.tc_base.specs.declared.limits.TheConstants.{LONGEST_FILE};
 ghost use Rattle.tc_base.specs.declared.reasons.Why.{Why};
 ghost use Rattle.tc_base.specs.declared.reasons.Why.TheVariants.{EntityReference};
 ghost use Rattle.tc_model.specs.Names.{ExpandedName};
@@ -83,7 +84,7 @@ fn attribute<'b, 't>(
     total: usize,
     text: &'t str,
 ) -> Result<(Written<'b, 't>, &'t str), Stop>
-    requires { total ≤ 67108864 }
+    requires { total ≤ LONGEST_FILE }
     ensures ok { IfOk result (λ r. AttributeAt false total text.now (written r.0) r.1.now) }
     ensures no { IfErr result (λ e. Refuses e
         ((a : xml_scopes.WrittenAttribute) (after : List ℕ)
@@ -117,7 +118,7 @@ fn attributes<'b, 't>(
     total: usize,
     text: &'t str,
 ) -> Result<(Vec<Written<'b, 't>, &'b Bump>, &'t str), Stop>
-    requires { total ≤ 67108864 }
+    requires { total ≤ LONGEST_FILE }
     ensures ok { IfOk result (λ r. xml.AttributesAt false total text.now
         (map written r.0.items) r.1.now) }
     ensures no_space { IfOk result (λ r. IsTrue (lacks_space (map written r.0.items))) }
@@ -173,7 +174,7 @@ pub(crate) fn open_tag<'b, 't>(
     outer: Scope<'b>,
     text: &'t str,
 ) -> Result<OpenTag<'b, 't>, Stop>
-    requires { total ≤ 67108864 }
+    requires { total ≤ LONGEST_FILE }
     ensures ok { IfOk result
         (λ t. xml.TagAt false total (in_scope outer.entry) text.now (written_name t.written)
         (in_scope t.meaning.scope) (name t.meaning.name)
@@ -341,7 +342,7 @@ fn gather_element<'b>(
 /// Reads the reference or the character data at the front, and gives what follows.
 #[inline(never)]
 fn characters<'t>(gathered: &mut Gathered<'_>, total: usize, text: &'t str) -> Result<&'t str, Stop>
-    requires total { total ≤ 67108864 }
+    requires total { total ≤ LONGEST_FILE }
     requires no_markup { (r : List ℕ) → text.now ≡ 0x3C ∷ r → ⊥ }
     ensures ok { IfOk result (λ rest. (p : xml.Piece) × SmallItemAt total text.now p rest.now
         × AddsPiece gathered.old gathered.new p) }
@@ -369,7 +370,7 @@ fn comment_or_cdata<'t>(
     total: usize,
     text: &'t str,
 ) -> Result<&'t str, Stop>
-    requires total { total ≤ 67108864 }
+    requires total { total ≤ LONGEST_FILE }
     requires opens { (r : List ℕ) × (text.now ≡ codes "<!" ++ r) }
     ensures ok { IfOk result (λ rest. (p : xml.Piece) × SmallItemAt total text.now p rest.now
         × AddsPiece gathered.old gathered.new p) }
@@ -417,7 +418,7 @@ fn content<'b, 't>(
     text: &'t str,
     depth: u32,
 ) -> Result<&'t str, Stop>
-    requires { total ≤ 67108864 }
+    requires { total ≤ LONGEST_FILE }
     ensures ok { IfOk result (λ rest. (h : RawTrees)
         × xml.ContentAt false total (in_scope scope.entry) depth text.now h rest.now
         × AddsContent gathered.old gathered.new h) }
@@ -450,7 +451,7 @@ fn item<'b, 't>(
     text: &'t str,
     depth: u32,
 ) -> Result<&'t str, Stop>
-    requires { total ≤ 67108864 }
+    requires { total ≤ LONGEST_FILE }
     ensures ok { IfOk result (λ rest. (p : xml.Piece)
         × xml.ItemAt false total (in_scope scope.entry) depth text.now p rest.now
         × AddsPiece gathered.old gathered.new p) }
@@ -491,7 +492,7 @@ fn element<'b, 't>(
     text: &'t str,
     depth: u32,
 ) -> Result<&'t str, Stop>
-    requires { total ≤ 67108864 }
+    requires { total ≤ LONGEST_FILE }
     ensures ok { IfOk result (λ rest. (p : xml.Piece)
         × xml.ElementAt false total (in_scope outer.entry) depth text.now p rest.now
         × AddsPiece gathered.old gathered.new p) }
@@ -526,7 +527,7 @@ fn body<'b, 't>(
     tag: &OpenTag<'b, 't>,
     depth: u32,
 ) -> Result<&'t str, Stop>
-    requires { total ≤ 67108864 }
+    requires { total ≤ LONGEST_FILE }
     ensures ok { IfOk result (λ rest. (h : RawTrees)
         × BodyAt false total (in_scope tag.now.meaning.scope) depth
         (written_name tag.now.written) tag.now.rest.now h rest.now
@@ -589,7 +590,7 @@ pub(crate) fn root_element<'b, 't>(
     text: &'t str,
     depth: u32,
 ) -> Result<(Raw<'b>, &'t str), Stop>
-    requires { total ≤ 67108864 }
+    requires { total ≤ LONGEST_FILE }
     ensures ok { IfOk result (λ r. (p : xml.Piece)
         × xml.ElementAt false total xml_scopes.first_scope depth text.now p r.1.now
         × (raw_tree r.0 ≡ xml.piece_before p none)) }

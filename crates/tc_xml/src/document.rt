@@ -1,5 +1,6 @@
 // A whole document (XML 1.0, 2.1 and 2.8).
 ghost use Rattle.std.specs.Prelude.{◌≡◌, ◌≤◌, ℕ, List, true, false, length, IfOk, IfErr};
+ghost use Rattle.tc_base.specs.declared.limits.TheConstants.{LONGEST_FILE};
 ghost use Rattle.tc_model.specs.Names.{IsChars};
 ghost use Rattle.tc_model.specs.RawTrees.{RawTrees};
 ghost use Rattle.tc_model.specs.Views.{raw_tree};
@@ -12,11 +13,9 @@ use crate::content::root_element;
 use crate::faults::Stop;
 use crate::misc::{after_declaration, after_doctype, after_misc};
 use bumpalo::Bump;
+use tc_base::limits::DEEPEST_NESTING;
 use tc_model::Raw;
 use tc_scan::after_mark;
-
-/// How many elements may stand within one another.
-pub(crate) const DEEPEST: u32 = 2000;
 
 /// What follows a byte order mark, if there is one (XML 1.0, 4.3.3).
 pub(crate) fn past_mark(text: &str) -> &str
@@ -54,7 +53,7 @@ pub(crate) fn before_root(text: &str) -> Result<&str, Stop>
 
 /// The root element of a document of characters of XML (XML 1.0, 2.1).
 pub(crate) fn document<'b>(arena: &'b Bump, text: &str) -> Result<Raw<'b>, Stop>
-    requires total { length text.now ≤ 67108864 }
+    requires total { length text.now ≤ LONGEST_FILE }
     requires characters { IsChars text.now }
     ensures ok { IfOk result (λ r. xml.XmlText text.now (raw_tree r)) }
     ensures no { IfErr result (λ e. RefusesWithin e
@@ -69,7 +68,7 @@ pub(crate) fn document<'b>(arena: &'b Bump, text: &str) -> Result<Raw<'b>, Stop>
         → ⊥)) }
 {
     let root = before_root(text)?;
-    let (tree, rest) = root_element(arena, text.len(), root, DEEPEST)?;
+    let (tree, rest) = root_element(arena, text.len(), root, DEEPEST_NESTING)?;
     let end = after_misc(rest)?;
     if end.is_empty() {
         Ok(tree)

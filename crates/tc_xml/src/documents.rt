@@ -2,6 +2,7 @@
 // What reads in one pass may give up, and so may what takes the trees. Then the reader that tells each fault
 // decides, so that the one in one pass promises only what it gives.
 ghost use Rattle.std.specs.Prelude.{◌≡◌, ◌≤◌, length, IfOk, IfErr, IfSome};
+ghost use Rattle.tc_base.specs.declared.limits.TheConstants.{LONGEST_FILE};
 ghost use Rattle.tc_model.specs.RawTrees.{RawTrees};
 ghost use Rattle.tc_model.specs.Stripped.{stripped};
 ghost use Rattle.tc_model.specs.Trees.{none, IsDocument};
@@ -20,7 +21,7 @@ use tc_model::Node;
 
 /// The document of a text that holds nothing unusual.
 fn plain_document<'b>(arena: &'b Bump, text: &'b [u8]) -> Option<Node<'b>>
-    requires { length text.now ≤ 67108864 }
+    requires { length text.now ≤ LONGEST_FILE }
     ensures { IfSome result
         (λ n. (h : RawTrees) × XmlText text.now h × (before n none ≡ stripped h)) }
 {
@@ -35,7 +36,7 @@ fn plain_document<'b>(arena: &'b Bump, text: &'b [u8]) -> Option<Node<'b>>
 ///
 /// As `read_raw` refuses a text.
 pub fn read_document<'b>(arena: &'b Bump, text: &'b [u8]) -> Result<Node<'b>, XmlFault>
-    requires { length text.now ≤ 67108864 }
+    requires { length text.now ≤ LONGEST_FILE }
     ensures ok { IfOk result
         (λ n. (h : RawTrees) × XmlText text.now h × (before n none ≡ stripped h)) }
     ensures document { IfOk result (λ n. IsDocument (before n none)) }

@@ -1,5 +1,6 @@
 // Why a text is refused.
 ghost use Rattle.std.specs.Prelude.{◌≡◌, ◌≤◌, ◌-◌};
+ghost use Rattle.tc_base.specs.declared.limits.TheConstants.{LONGEST_FILE};
 ghost use Rattle.tc_xml.specs.Faults.{fault_of};
 
 use std::alloc::{AllocError, AllocFailed};
@@ -60,7 +61,7 @@ impl From<OutOfMemory> for Stop {
 impl Stop {
     /// The fault of a text of so many bytes.
     pub(crate) fn fault(self, total: usize) -> XmlFault
-        requires { total ≤ 67108864 }
+        requires { total ≤ LONGEST_FILE }
         ensures { result ≡ fault_of total self }
     {
         match self {
@@ -74,7 +75,7 @@ impl Stop {
 
 /// The place in a text of so many bytes where so many are left.
 pub(crate) fn place_of(total: usize, left: usize) -> Place
-    requires { total ≤ 67108864 }
+    requires { total ≤ LONGEST_FILE }
     ensures { result.0 ≡ total - left }
 {
     Place(total.saturating_sub(left) as u32)

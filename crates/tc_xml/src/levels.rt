@@ -6,10 +6,10 @@ ghost use Rattle.tc_xml.specs.Bindings.{TakesBack, now_bound};
 ghost use Rattle.tc_xml.specs.Spelled.{AreRight, TagReadBy};
 
 use crate::bindings::Bindings;
-use crate::document::DEEPEST;
 use crate::plain_tags::{AttributeNames, Tag, read_tag};
 use crate::spelled::SpelledNames;
 use bumpalo::Bump;
+use tc_base::limits::DEEPEST_NESTING;
 use tc_scan::QualifiedName;
 
 /// An element that has started: its name as it is written, how many declarations are in scope around it, and how
@@ -48,7 +48,7 @@ impl<'b> Levels<'b> {
             bindings,
             names: AttributeNames::new(arena),
             spelled,
-            depth: DEEPEST,
+            depth: DEEPEST_NESTING,
         })
     }
 

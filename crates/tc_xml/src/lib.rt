@@ -2,6 +2,7 @@
 #![tactic(auto)]
 
 ghost use Rattle.std.specs.Prelude.{◌≤◌, length, IfOk, IfErr};
+ghost use Rattle.tc_base.specs.declared.limits.TheConstants.{LONGEST_FILE};
 ghost use Rattle.tc_model.specs.RawTrees.{IsOneElement};
 ghost use Rattle.tc_model.specs.Views.{raw_tree};
 ghost use Rattle.tc_model.specs.Stripped.{stripped};
@@ -46,7 +47,7 @@ use tc_scan::characters;
 /// Unsupported at a construct that isn't read, where the text before it is well-formed. TooDeep at the `<` of an
 /// element within 2,000 others. Otherwise Malformed. NoMemory where memory is refused.
 pub fn read_raw<'b>(arena: &'b Bump, text: &[u8]) -> Result<Raw<'b>, XmlFault>
-    requires { length text.now ≤ 67108864 }
+    requires { length text.now ≤ LONGEST_FILE }
     ensures ok { IfOk result (λ r. XmlText text.now (raw_tree r)) }
     ensures element { IfOk result (λ r. IsOneElement (raw_tree r)) }
     ensures lawful { IfOk result (λ r. AreLawfulWithin (length text.now) (raw_tree r)) }

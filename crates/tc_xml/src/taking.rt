@@ -1,6 +1,7 @@
 // A document, handed on piece by piece in normal form (XML 1.0, 3 and 3.1; XSLT 1.0, 3.4). Where anything is
 // unusual this gives up, and what it gives is what the text means.
 ghost use Rattle.std.specs.Prelude.{◌≡◌, ◌≢◌, ◌<◌, ◌≤◌, ◌∷◌, ◌++◌, [], ℕ, List, length, IfSome, string_bytes, encode_utf8, codes, IsTrue};
+ghost use Rattle.tc_base.specs.declared.limits.TheConstants.{LONGEST_FILE};
 ghost use Rattle.tc_model.specs.Events.{Takes, start as started, end as ended, events};
 ghost use Rattle.tc_model.specs.RawTrees.{RawTrees, none};
 ghost use Rattle.tc_model.specs.Runs.{run_text};
@@ -220,7 +221,7 @@ fn start_tag<'b, T: TakesTrees<'b>>(
     total: usize,
     text: &'b str,
 ) -> Option<&'b str>
-    requires { total ≤ 67108864 }
+    requires { total ≤ LONGEST_FILE }
     ensures steps { IfSome result (λ rest. (deepest : ℕ) (root : List ℕ) (begun : T)
         → StandsAt T.takes total deepest root begun levels.old text.now reader.old.taker
         (run_text reader.old.run)
@@ -287,7 +288,7 @@ fn end_tag<'b, T: TakesTrees<'b>>(
     total: usize,
     text: &'b str,
 ) -> Option<&'b str>
-    requires { total ≤ 67108864 }
+    requires { total ≤ LONGEST_FILE }
     ensures steps { IfSome result (λ rest. (deepest : ℕ) (root : List ℕ) (begun : T)
         → StandsAt T.takes total deepest root begun levels.old text.now reader.old.taker
         (run_text reader.old.run)
@@ -310,7 +311,7 @@ fn step<'b, T: TakesTrees<'b>>(
     total: usize,
     text: &'b str,
 ) -> Option<&'b str>
-    requires total { total ≤ 67108864 }
+    requires total { total ≤ LONGEST_FILE }
     requires within { levels.old.open.items ≢ [] }
     ensures steps { IfSome result (λ rest. (deepest : ℕ) (root : List ℕ) (begun : T)
         → StandsAt T.takes total deepest root begun levels.old text.now reader.old.taker
@@ -342,7 +343,7 @@ fn past_elements<'b, T: TakesTrees<'b>>(
     total: usize,
     text: &'b str,
 ) -> Option<&'b str>
-    requires { total ≤ 67108864 }
+    requires { total ≤ LONGEST_FILE }
     ensures { IfSome result (λ rest. (deepest : ℕ) (root : List ℕ) (begun : T)
         → StandsAt T.takes total deepest root begun levels.old text.now reader.old.taker
         (run_text reader.old.run)
@@ -372,7 +373,7 @@ fn take_root<'b, T: TakesTrees<'b>>(
     total: usize,
     root: &'b str,
 ) -> Option<&'b str>
-    requires total { total ≤ 67108864 }
+    requires total { total ≤ LONGEST_FILE }
     requires run { run_text reader.old.run ≡ [] }
     ensures { IfSome result
         (λ rest. Finished T.takes total deepest_element root.now reader.old.taker rest.now
@@ -384,7 +385,7 @@ fn take_root<'b, T: TakesTrees<'b>>(
 
 /// Takes the document of a text, where nothing was taken yet.
 fn take_text<'b, T: TakesTrees<'b>>(reader: &mut Reader<'b, T>, text: &'b [u8]) -> Option<()>
-    requires total { length text.now ≤ 67108864 }
+    requires total { length text.now ≤ LONGEST_FILE }
     requires run { run_text reader.old.run ≡ [] }
     ensures { IfSome result (λ _. (h : RawTrees) × XmlText text.now h
         × Takes T.takes reader.old.taker (events (stripped h)) reader.new.taker) }
@@ -406,7 +407,7 @@ fn take_text<'b, T: TakesTrees<'b>>(reader: &mut Reader<'b, T>, text: &'b [u8]) 
 /// What takes the document of a text, with all of it taken, piece by piece in normal form: where the text is read
 /// and nothing in it is unusual. The pieces last as long as the text and the arena. Takes at most 64 MiB of text.
 pub fn take_document<'b, T: TakesTrees<'b>>(arena: &'b Bump, text: &'b [u8], taker: T) -> Option<T>
-    requires { length text.now ≤ 67108864 }
+    requires { length text.now ≤ LONGEST_FILE }
     ensures { IfSome result (λ new. (h : RawTrees) × XmlText text.now h
         × Takes T.takes taker (events (stripped h)) new) }
 {

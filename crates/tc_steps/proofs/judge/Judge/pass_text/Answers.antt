@@ -1,20 +1,26 @@
-use Rattle.std.proofs.Common.{◌≡◌, arith, length, refl}
+use Rattle.std.proofs.Common.{◌≡◌, ◌∙◌, ◌+◌, ◌-◌, [], ap, arith, length, take, refl, sym}
+use Rattle.std.proofs.lemmas.Bool.{eqb-true, eqb-false}
 use Rattle.std.proofs.lemmas.List.{nil_from_length}
-use Rattle.std.proofs.lemmas.Option.{IfSome_then}
-use Rattle.tc_steps.proofs.JudgedLaws.{text_outside, text_passed}
+use Rattle.tc_steps.specs.declared.moves.Opened.{Opened}
+use Rattle.tc_steps.proofs.JudgedLaws.{text_outside, text_passed, last_apart, last_set, one_place}
 use Rattle.tc_steps.proofs.judge.Judge.pass_text.Goals as goal
 
-pub returns-in-None : goal.returns-in-None
-returns-in-None c = λ x p run white at.
-    let old = c.args.self.now.levels in
-    let new = c.pop.new.self in
-    let (first, last) = c.in-None.ensures.cases in
-    let none : length old.items ≡ 0 = omega arith in
-    let left : length new.items ≡ 0 = omega arith in
-    text_outside x c.args.self.now _ p run (nil_from_length old.items none) (nil_from_length new.items left) refl at
+pub returns-then-is_empty : goal.returns-then-is_empty
+returns-then-is_empty c = λ x p run white at.
+    let items = c.args.self.now.levels.items in
+    let zero = eqb-true _ 0 (sym c.is_empty.ensures ∙ c.if-is_empty.true) in
+    let none : items ≡ [] = nil_from_length items (omega (arith, zero)) in
+    text_outside x c.args.self.now _ p run none none refl at
 
-pub returns-in_ok-after-in-Some : goal.returns-in_ok-after-in-Some
-returns-in_ok-after-in-Some c =
-    IfSome_then c.push_level.result c.push_level.ensures.levels (λ u levels x p run white at.
-    text_passed x c.args.self.now c.push_level.new.self c.after_text.new.self c.pop.new.self.items c.in-Some.field-0 _ p run c.in-Some.ensures.items levels c.push_level.ensures.moves c.push_level.ensures.valid
-    (c.in_ok-after-in-Some.ensures.keeps x at.right) (c.in_ok-after-in-Some.ensures.after x at.right) refl white at)
+pub returns : goal.returns
+returns c = λ x p run white at.
+    let items = c.args.self.now.levels.items in
+    let n = c.len-innermost.result - 1 in
+    let some = eqb-false _ 0 (sym c.is_empty.ensures ∙ c.if-is_empty.false) in
+    let long : n + 1 ≡ length items = omega (arith, some, c.len-innermost.ensures) in
+    let read = c.index.result.now in
+    let written = c.index_mut.result.now in
+    let same : written ≡ read = one_place items n written read (omega (arith, long)) c.index_mut.ensures.value c.index.ensures in
+    let after : Opened = record { symbol = written.symbol; states = c.in_ok-after.after } in
+    text_passed x c.args.self.now _ c.after_text.new.self (take n items) read after p run (last_apart items n read long c.index.ensures) (last_set items n after long) refl refl
+    (c.in_ok-after.ensures.keeps x at.right) (c.in_ok-after.ensures.after x at.right) (ap (λ (o : Opened). o.symbol) same) white at

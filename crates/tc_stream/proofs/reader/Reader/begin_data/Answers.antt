@@ -1,5 +1,6 @@
-use Rattle.std.proofs.Common.{◌≡◌, ◌+◌, inl, refl, arith, sym, ◌∙◌, subst, length}
+use Rattle.std.proofs.Common.{◌≡◌, ◌+◌, inl, refl, ap, arith, sym, ◌∙◌, subst, length}
 use Rattle.tc_stream.specs.Reading.{FaultsOn}
+use Rattle.tc_stream.specs.Scans.{cdata_scan}
 use Rattle.tc_stream.proofs.DataReads.{at_front, at_front_less, begun_text, begun_text_faults, cut_at_mark}
 use Rattle.tc_stream.proofs.ReadingLaws.{failed}
 use Rattle.tc_tags.proofs.FailedLaws.{failed_ok}
@@ -9,14 +10,17 @@ pub begin_reference-requires-clause-open_here : goal.begin_reference-requires-cl
 begin_reference-requires-clause-open_here c = inl (c.requires.part, c.requires.content)
 
 pub begin_reference-requires-clause-bare : goal.begin_reference-requires-clause-bare
-begin_reference-requires-clause-bare c = sym c.plain_len-count.ensures.count ∙ c.if-count-eq0.true
+begin_reference-requires-clause-bare c = sym c.run_at-front.ensures.count ∙ c.if-count-eq0.true
 
 pub split_at-requires : goal.split_at-requires
-split_at-requires c = cut_at_mark c.args.text.now c.plain_len-count.result c.plain_len-count.ensures.count
+split_at-requires c = cut_at_mark c.args.text.now c.run_at-front.result.count c.run_at-front.ensures.count
+
+pub read_run-requires-clause-clear : goal.read_run-requires-clause-clear
+read_run-requires-clause-clear c = λ h. ap (cdata_scan 0) c.split_at.ensures.front ∙ c.run_at-front.ensures.clear h
 
 pub returns-in_err-read_run-clause-fault : goal.returns-in_err-read_run-clause-fault
 returns-in_err-read_run-clause-fault c =
-    let front = at_front c.plain_len-count.result c.plain_len-count.ensures.count c.if-count-eq0.false c.split_at.ensures.front c.split_at.ensures.back in
+    let front = at_front c.run_at-front.result.count c.run_at-front.ensures.count c.if-count-eq0.false c.split_at.ensures.front c.split_at.ensures.back in
     let place = c.place_of-self.ensures in
     let within = c.requires.within in
     let fits : c.place_of-self.result + length c.args.text.now ≡ c.args.end = omega (arith, place, within) in
@@ -26,7 +30,7 @@ returns-in_err-read_run-clause-fault c =
 
 pub returns-clause-ok : goal.returns-clause-ok
 returns-clause-ok c =
-    let front = at_front c.plain_len-count.result c.plain_len-count.ensures.count c.if-count-eq0.false c.split_at.ensures.front c.split_at.ensures.back in
+    let front = at_front c.run_at-front.result.count c.run_at-front.ensures.count c.if-count-eq0.false c.split_at.ensures.front c.split_at.ensures.back in
     let place = c.place_of-self.ensures in
     let within = c.requires.within in
     let fits : c.place_of-self.result + length c.args.text.now ≡ c.args.end = omega (arith, place, within) in
@@ -34,7 +38,7 @@ returns-clause-ok c =
     begun_text c.args.end c.place_of-self.result ok.0 front c.requires.part c.requires.content c.requires.ready ok.2 refl c.in_ok-read_run.ensures.elements ok.1 c.in_ok-read_run.ensures.phase c.in_ok-read_run.ensures.begun fits
 
 pub returns-clause-less : goal.returns-clause-less
-returns-clause-less c = at_front_less (at_front c.plain_len-count.result c.plain_len-count.ensures.count c.if-count-eq0.false c.split_at.ensures.front c.split_at.ensures.back)
+returns-clause-less c = at_front_less (at_front c.run_at-front.result.count c.run_at-front.ensures.count c.if-count-eq0.false c.split_at.ensures.front c.split_at.ensures.back)
 
 pub begin_reference-requires-clause-ready : goal.begin_reference-requires-clause-ready
 begin_reference-requires-clause-ready c = c.requires.ready

@@ -1,5 +1,6 @@
-use Rattle.std.proofs.Common.{inr, refl, sym, ◌∙◌, subst}
+use Rattle.std.proofs.Common.{inr, refl, ap, sym, ◌∙◌, subst}
 use Rattle.tc_stream.specs.Reading.{FaultsOn}
+use Rattle.tc_stream.specs.Scans.{cdata_scan}
 use Rattle.tc_stream.proofs.DataReads.{at_front, at_front_less, grown_text, grown_text_faults, cut_at_mark}
 use Rattle.tc_stream.proofs.ReadingLaws.{failed}
 use Rattle.tc_stream.proofs.ScanEnds.{counted_data}
@@ -10,29 +11,32 @@ pub begin_reference-requires-clause-open_here : goal.begin_reference-requires-cl
 begin_reference-requires-clause-open_here c = inr (c.args.brackets, c.requires.part)
 
 pub begin_reference-requires-clause-bare : goal.begin_reference-requires-clause-bare
-begin_reference-requires-clause-bare c = sym c.plain_len-count.ensures.count ∙ c.if-count-eq0.true
+begin_reference-requires-clause-bare c = sym c.run_at-front.ensures.count ∙ c.if-count-eq0.true
 
 pub split_at-requires : goal.split_at-requires
-split_at-requires c = cut_at_mark c.args.text.now c.plain_len-count.result c.plain_len-count.ensures.count
+split_at-requires c = cut_at_mark c.args.text.now c.run_at-front.result.count c.run_at-front.ensures.count
 
-pub read_run-requires : goal.read_run-requires
-read_run-requires c = counted_data c.requires.part c.args.self.now.counted
+pub read_run-requires-clause-few : goal.read_run-requires-clause-few
+read_run-requires-clause-few c = counted_data c.requires.part c.args.self.now.counted
+
+pub read_run-requires-clause-clear : goal.read_run-requires-clause-clear
+read_run-requires-clause-clear c = λ h. ap (cdata_scan 0) c.split_at.ensures.front ∙ c.run_at-front.ensures.clear h
 
 pub returns-in_err-read_run-clause-fault : goal.returns-in_err-read_run-clause-fault
 returns-in_err-read_run-clause-fault c =
-    let front = at_front c.plain_len-count.result c.plain_len-count.ensures.count c.if-count-eq0.false c.split_at.ensures.front c.split_at.ensures.back in
+    let front = at_front c.run_at-front.result.count c.run_at-front.ensures.count c.if-count-eq0.false c.split_at.ensures.front c.split_at.ensures.back in
     let no = c.in_err-read_run.ensures.no in
     failed _ _ (FaultsOn c.args.self.now c.args.text.now c.args.end) c.from_residual.ensures.1
     (subst (FaultsOn c.args.self.now c.args.text.now c.args.end) (sym no.0) (grown_text_faults c.args.end c.args.brackets c.requires.within front c.requires.part no.1.1))
 
 pub returns-clause-ok : goal.returns-clause-ok
 returns-clause-ok c =
-    let front = at_front c.plain_len-count.result c.plain_len-count.ensures.count c.if-count-eq0.false c.split_at.ensures.front c.split_at.ensures.back in
+    let front = at_front c.run_at-front.result.count c.run_at-front.ensures.count c.if-count-eq0.false c.split_at.ensures.front c.split_at.ensures.back in
     let ok = c.in_ok-read_run.ensures.ok in
     grown_text c.args.end c.args.brackets ok.0 c.requires.within front c.requires.part c.requires.ready ok.2 refl c.in_ok-read_run.ensures.elements ok.1 c.in_ok-read_run.ensures.phase c.in_ok-read_run.ensures.begun
 
 pub returns-clause-less : goal.returns-clause-less
-returns-clause-less c = at_front_less (at_front c.plain_len-count.result c.plain_len-count.ensures.count c.if-count-eq0.false c.split_at.ensures.front c.split_at.ensures.back)
+returns-clause-less c = at_front_less (at_front c.run_at-front.result.count c.run_at-front.ensures.count c.if-count-eq0.false c.split_at.ensures.front c.split_at.ensures.back)
 
 pub begin_reference-requires-clause-ready : goal.begin_reference-requires-clause-ready
 begin_reference-requires-clause-ready c = c.requires.ready

@@ -4,13 +4,16 @@ use Rattle.tc_stream.specs.Scans.{cdata_scan}
 use Rattle.tc_stream.proofs.ScanEnds.{told_data, told_no_data, data_counted}
 use Rattle.tc_stream.proofs.reader.Reader.read_run.Goals as goal
 
+pub data_end-requires-clause-clear : goal.data_end-requires-clause-clear
+data_end-requires-clause-clear c = λ h. ap (cdata_scan 0) c.as_bytes.ensures.value ∙ c.requires.clear h
+
 pub returns-in_default-clause-no : goal.returns-in_default-clause-no
 returns-in_default-clause-no c =
     let none = told_no_data c.args.brackets c.as_bytes.result.now c.in_default.ensures in
     (c.malformed.ensures, (none.0, ap (cdata_scan c.args.brackets) (sym c.as_bytes.ensures.value) ∙ none.1))
 
 pub invariant_of-self-clause-counted : goal.invariant_of-self-clause-counted
-invariant_of-self-clause-counted c = data_counted c.args.brackets c.in-Some.known c.as_bytes.result.now c.requires c.in-Some.ensures
+invariant_of-self-clause-counted c = data_counted c.args.brackets c.in-Some.known c.as_bytes.result.now c.requires.few c.in-Some.ensures
 
 pub returns-clause-ok : goal.returns-clause-ok
 returns-clause-ok c =
