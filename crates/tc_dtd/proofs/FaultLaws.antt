@@ -38,7 +38,7 @@ form_front : {deepest : ℕ} {bytes front : List ℕ} {found : List Placed} → 
 form_front {deepest} {found = found} f m = subst (λ w. TextAt deepest w (read found [])) (front_form f m) m.reads
 
 -- a reading at another depth is one here, or parentheses stand too deep
-here_or_deep : (deepest : ℕ) (front : List ℕ) (found : List Placed) → TextAt deepest front (read found [])
+pub here_or_deep : (deepest : ℕ) (front : List ℕ) (found : List Placed) → TextAt deepest front (read found [])
     → TextAt deepest_parenthesis front (read found []) ⊎ ((at : List ℕ) × TextAt deepest_parenthesis front (refused too_deep at))
 here_or_deep deepest front found m = text_kept deepest_parenthesis deepest front (read found []) m tt
 

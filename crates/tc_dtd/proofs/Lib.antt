@@ -10,6 +10,11 @@ pub mod ContentsLaws
 pub mod MarkupLaws
 pub mod FaultLaws
 pub mod OneFault
+pub mod EachText
+pub mod DecidingPhrases
+pub mod DecidingNames
+pub mod DecidingContents
+pub mod DecidingTexts
 pub mod NumberLaws
 pub mod ReachLaws
 pub mod SizeLaws

@@ -143,7 +143,7 @@ pub record Skips (references : Bool) (text rest : List ℕ) : Type 0 where
 pub skips_first : (references : Bool) (text : List ℕ) → Skips references text text
 skips_first references text = record { forth = λ o a. a; back = λ o a. a }
 
-quote_not : (q b : ℕ) → IsQuote q → (b ≡ 0x3E) ⊎ (b ≡ 0x25) → q ≡ b → ⊥
+pub quote_not : (q b : ℕ) → IsQuote q → (b ≡ 0x3E) ⊎ (b ≡ 0x25) → q ≡ b → ⊥
 quote_not q b (inl i) (inl j) e = omega (arith, i, j, e)
 quote_not q b (inl i) (inr j) e = omega (arith, i, j, e)
 quote_not q b (inr i) (inl j) e = omega (arith, i, j, e)

@@ -5,6 +5,7 @@
 -- first construct that is reached decides.
 use Rattle.std.specs.Prelude.{◌≡◌, ℕ, List, [], ◌∷◌, ◌++◌, map, length, bytes_eq}
 use Rattle.std.specs.List.{IsDistinct, Contains}
+use Rattle.tc_base.specs.declared.limits.TheConstants.{DEEPEST_NESTING}
 use Rattle.tc_model.specs.Names.{IsChars}
 use Rattle.tc_model.specs.XmlText.{after_mark}
 use Rattle.tc_model.specs.XmlTextBytes.{place_of, FrontOf}
@@ -20,7 +21,7 @@ TextAt deepest bytes = Then TextDeclarationAt (λ _. Then (Past MiscAt) (λ _. D
 
 -- how deep parentheses may stand within one another
 abbrev pub deepest_parenthesis : ℕ
-deepest_parenthesis = 2000
+deepest_parenthesis = DEEPEST_NESTING
 
 -- a text of characters of XML that has this form, in which elements may be declared more than once
 pub record HasForm (deepest : ℕ) (bytes : List ℕ) (found : List Placed) : Type 0 where

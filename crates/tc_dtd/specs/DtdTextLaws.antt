@@ -47,3 +47,13 @@ HasOneFault = (bytes : List ℕ) (one other : DtdFault) → IsRefusal one → Is
 -- declarations have one grammar at most with this element as the document's
 abbrev pub HasOneGrammar : Type 0
 HasOneGrammar = (ds : List Declaration) (root : List ℕ) (g h : Grammar) → IsGrammarOfDtd ds root g → IsGrammarOfDtd ds root h → g ≡ h
+
+-- any bytes declare elements, or are refused
+abbrev pub HasDtdOrFault : Type 0
+HasDtdOrFault = (bytes : List ℕ) → ((ds : List Declaration) × DtdText bytes ds) ⊎ ((fault : DtdFault) × (IsRefusal fault × IsFaultOf bytes fault))
+
+-- No text is without both a grammar, with this element as the document's, and a refusal; and none has both. So each has one of them. It is said so, by
+-- what would be absurd, since which elements are reached can't be read off this law: that `grammar` tells.
+abbrev pub HasGrammarOrFault : Type 0
+HasGrammarOrFault = (bytes root : List ℕ) → ((ds : List Declaration) (g : Grammar) → DtdText bytes ds → IsGrammarOfDtd ds root g → ⊥)
+    → ((fault : DtdFault) → IsRefusal fault → IsFaultOf bytes fault → ⊥) → ⊥

@@ -1,5 +1,6 @@
 // Why a text is refused.
 ghost use Rattle.std.specs.Prelude.{◌≡◌, ◌≤◌, ◌-◌, ◌∷◌, [], ℕ, List, length};
+ghost use Rattle.tc_base.specs.declared.limits.TheConstants.{LONGEST_FILE};
 ghost use Rattle.tc_dtd.specs.Faults.{fault_of};
 ghost use Rattle.tc_dtd.specs.Stops.{IsUnexpected};
 
@@ -74,7 +75,7 @@ impl From<OutOfMemory> for DtdFault {
 impl Stop {
     /// The fault of a text of so many bytes.
     pub(crate) fn fault(self, total: usize) -> DtdFault
-        requires { total ≤ 67108864 }
+        requires { total ≤ LONGEST_FILE }
         ensures { result ≡ fault_of total self }
     {
         match self {
@@ -88,7 +89,7 @@ impl Stop {
 
 /// The place in a text of so many bytes where so many are left.
 pub(crate) fn place_of(total: usize, left: usize) -> Place
-    requires { total ≤ 67108864 }
+    requires { total ≤ LONGEST_FILE }
     ensures { result.0 ≡ total - left }
 {
     Place(total.saturating_sub(left) as u32)

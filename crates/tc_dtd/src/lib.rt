@@ -3,6 +3,7 @@
 #![tactic(auto)]
 
 ghost use Rattle.std.specs.Prelude.{◌≤◌, length, map, IfOk, IfErr};
+ghost use Rattle.tc_base.specs.declared.limits.TheConstants.{LONGEST_FILE};
 ghost use Rattle.tc_dtd.specs.Declarations.{AreDeclarations};
 ghost use Rattle.tc_dtd.specs.DtdText.{DtdText};
 ghost use Rattle.tc_dtd.specs.Faults.{IsFaultOf, IsDeclaredOnce, IsAgain};
@@ -42,7 +43,7 @@ use tc_scan::characters;
 /// Unsupported at a construct that isn't read. TooDeep at a parenthesis within 2,000 others. Otherwise Malformed, and
 /// Twice only where all else is well. NoMemory where memory is refused.
 pub fn read_dtd<'b>(arena: &'b Bump, text: &[u8]) -> Result<Dtd<'b>, DtdFault>
-    requires { length text.now ≤ 67108864 }
+    requires { length text.now ≤ LONGEST_FILE }
     ensures ok { IfOk result (λ d. DtdText text.now (see.declarations d)) }
     ensures lawful { IfOk result (λ d. AreDeclarations (see.declarations d)) }
     ensures refused { IfErr result (IsFaultOf text.now) }

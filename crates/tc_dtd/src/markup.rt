@@ -1,5 +1,6 @@
 // Declarations one after the other, and whole texts (XML 1.0, 2.8 and 3.2).
 ghost use Rattle.std.specs.Prelude.{◌≡◌, ◌≤◌, ◌++◌, [], ℕ, List, map, length, IfOk, IfErr, OnOk};
+ghost use Rattle.tc_base.specs.declared.limits.TheConstants.{LONGEST_FILE};
 ghost use Rattle.tc_model.specs.XmlText.{after_mark as past_mark_of};
 ghost use Rattle.tc_dtd.specs.DtdText as whole;
 ghost use Rattle.tc_dtd.specs.DtdTextDeclarations as form;
@@ -15,11 +16,9 @@ use crate::misc::after_misc;
 use crate::prolog::after_declaration;
 use crate::skipping::after_unread;
 use bumpalo::Bump;
+use tc_base::limits::DEEPEST_NESTING;
 use tc_base::{Place, Why};
 use tc_scan::{after_byte, after_mark, after_white, begins};
-
-/// How many parentheses may stand within one another.
-const DEEPEST: u32 = 2000;
 
 /// The declaration of an element, and the place of its `<`.
 #[derive(Clone, Copy)]
@@ -50,7 +49,7 @@ fn element<'b, 't>(arena: &'b Bump, text: &'t str) -> Result<(Decl<'b>, &'t str)
     let start = after_space(text)?;
     let (name, behind) = element_name(arena, start)?;
     let past_name = after_space(behind)?;
-    let (content, end) = content(arena, DEEPEST, past_name)?;
+    let (content, end) = content(arena, DEEPEST_NESTING, past_name)?;
     let after = after_end(end)?;
     Ok((Decl { name, content }, after))
 }
@@ -62,7 +61,7 @@ fn after_markup<'b, 't>(
     text: &'t str,
     found: &mut Vec<Placed<'b>, &'b Bump>,
 ) -> Result<&'t str, Stop>
-    requires { total ≤ 67108864 }
+    requires { total ≤ LONGEST_FILE }
     ensures ok { IfOk result
         (λ r. (xs : List form.Placed)
         × (map placed found.new.items ≡ map placed found.old.items ++ xs)
@@ -92,7 +91,7 @@ fn put_markup<'b>(
     text: &str,
     found: &mut Vec<Placed<'b>, &'b Bump>,
 ) -> Result<(), Stop>
-    requires low { total ≤ 67108864 }
+    requires low { total ≤ LONGEST_FILE }
     requires none { found.old.items ≡ [] }
     ensures ok { OnOk result
         (form.DeclarationsAt whole.deepest_parenthesis total text.now
@@ -120,7 +119,7 @@ fn past_mark(text: &str) -> &str
 
 /// All declarations of elements of a text (XML 1.0, 2.8).
 pub(crate) fn all_placed<'b>(arena: &'b Bump, text: &str) -> Result<Vec<Placed<'b>, &'b Bump>, Stop>
-    requires { length text.now ≤ 67108864 }
+    requires { length text.now ≤ LONGEST_FILE }
     ensures ok { IfOk result
         (λ v. whole.TextAt whole.deepest_parenthesis text.now (read (map placed v.items) [])) }
     ensures no { IfErr result (λ e. Stops e (whole.TextAt whole.deepest_parenthesis text.now)) }

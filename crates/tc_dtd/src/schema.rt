@@ -119,7 +119,7 @@ fn built_by<'b>(
     found: &Names<'b>,
     root: &'b str,
 ) -> Result<Grammar<'b>, OutOfMemory>
-    requires few { length decls.now ≤ 256 }
+    requires few { length decls.now ≤ MOST_ELEMENT_PATTERNS }
     requires found { see.names found.now.keys ≡ map (λ x. x.name) (map see.declaration decls.now) }
     ensures { IfOk result
         (λ g. seen.grammar g ≡ grammar_with (map see.declaration decls.now) root.now) }
@@ -133,7 +133,7 @@ fn built_by<'b>(
 /// The grammar of these elements.
 fn built<'b>(arena: &'b Bump, decls: &[Decl<'b>], root: &'b str) -> Result<Grammar<'b>, OutOfMemory>
     requires once { AreApart (map (λ x. x.name) (map see.declaration decls.now)) }
-    requires few { length decls.now ≤ 256 }
+    requires few { length decls.now ≤ MOST_ELEMENT_PATTERNS }
     ensures { IfOk result
         (λ g. seen.grammar g ≡ grammar_with (map see.declaration decls.now) root.now) }
 {

@@ -4,3 +4,11 @@ mod TextFaults
 mod RefusedTexts
 pub mod SchemaReasons
 pub mod SheetMeanings
+pub mod DecidingBytes
+pub mod DecidingNames
+pub mod DecidingTags
+pub mod DecidingStartTags
+pub mod DecidingElements
+pub mod DecidingDocuments
+pub mod DocumentReasons
+pub mod SheetReasons

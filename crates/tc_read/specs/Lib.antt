@@ -3,3 +3,5 @@ pub mod Refusals
 pub mod Schemas
 pub mod Sheets
 pub mod SchemaLaws
+pub mod DocumentLaws
+pub mod SheetLaws

@@ -4,6 +4,7 @@ ghost use Rattle.tc_base.specs.Reading.{longest_text};
 ghost use Rattle.tc_model.specs.Views.{before};
 ghost use Rattle.tc_model.specs.Trees.{none, IsDocument};
 ghost use Rattle.tc_print.specs.ReadBack.{IsReadAs};
+ghost use Rattle.tc_read.specs.DocumentLaws.{HasDocumentOrReason, HasNoDocument};
 ghost use Rattle.tc_read.specs.Faults.{IsUnaccepted};
 ghost use Rattle.tc_read.specs.Refusals.{IsRefusedDocument};
 
@@ -25,3 +26,9 @@ pub fn read_document<'b>(arena: &'b Bump, text: &[u8]) -> Result<Node<'b>, TextF
     let document = tc_xml::read_document(arena, kept)?;
     Ok(document)
 }
+
+/// Laws of the texts of documents: each has a document or is refused, and not both.
+pub fn law_of_documents()
+    ensures none { HasNoDocument }
+    ensures some { HasDocumentOrReason }
+{}

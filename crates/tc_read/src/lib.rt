@@ -6,7 +6,7 @@ mod faults;
 mod schemas;
 mod sheets;
 
-pub use documents::read_document;
+pub use documents::{law_of_documents, read_document};
 pub use faults::{Reason, TextFault};
 pub use schemas::{Schema, law_of_schemas, read_schema};
-pub use sheets::read_sheet;
+pub use sheets::{law_of_stylesheets, read_sheet};

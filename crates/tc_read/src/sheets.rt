@@ -9,6 +9,7 @@ ghost use Rattle.tc_model.specs.WellFormed.{IsSheet};
 ghost use Rattle.tc_model.specs.XmlText.{XmlText};
 ghost use Rattle.tc_read.specs.Faults.{IsUnaccepted, IsOfTree};
 ghost use Rattle.tc_read.specs.Refusals.{IsRefusedSheet};
+ghost use Rattle.tc_read.specs.SheetLaws.{HasNoSheet, HasSheetOrReason};
 ghost use Rattle.tc_read.specs.Sheets.{IsSheetOf};
 ghost use Rattle.tc_sheet.specs.Changes.{mended, flattened, Changed};
 ghost use Rattle.tc_sheet.specs.Faults.{IsUnsupported, IsTooDeep, IsUndefinedAt, IsLoopAt, NamesAgain, IsMalformedAt};
@@ -48,3 +49,9 @@ pub fn read_sheet<'b>(arena: &'b Bump, text: &[u8]) -> Result<Sheet<'b>, TextFau
     let sheet = tc_sheet::read_sheet(arena, &raw)?;
     Ok(sheet)
 }
+
+/// Laws of the texts of stylesheets: each spells a stylesheet or is refused, and not both.
+pub fn law_of_stylesheets()
+    ensures none { HasNoSheet }
+    ensures some { HasSheetOrReason }
+{}

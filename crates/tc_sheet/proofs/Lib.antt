@@ -35,3 +35,6 @@ pub mod SheetLaws
 pub mod WholeSheets
 pub mod Passed
 pub mod PutLaws
+pub mod LessChanged
+pub mod DeepForms
+pub mod EachSheet

@@ -48,7 +48,7 @@ covers_itself Has = record { moves = λ x a. a }
 pub both_cover : {Has Has' Third : Item → Type 0} → Covers Has Has' → Covers Has' Third → Covers Has Third
 both_cover v w = record { moves = λ x a. w.moves x (v.moves x a) }
 
-nothing_there : {w : Where} {x : Item} → IsIn w none x → ⊥
+pub nothing_there : {w : Where} {x : Item} → IsIn w none x → ⊥
 nothing_there a = elim a [ ]
 
 module _ {n : ExpandedName} {olds : List Attribute} {scope : List Bound} {p : ℕ} {kids rest : RawTrees} where

@@ -14,7 +14,7 @@ use Rattle.tc_sheet.specs.Constructs.{reason_of, parts, IsUnknown, IsRoot, plain
 use Rattle.tc_sheet.specs.Constructs as c
 use Rattle.tc_sheet.proofs.SameBodies.{instruction_reason, literal_reason, xsl_reason}
 
-none_some : {X : Type 0} {o : Option X} {x : X} → o ≡ None → o ≡ Some x → ⊥
+pub none_some : {X : Type 0} {o : Option X} {x : X} → o ≡ None → o ≡ Some x → ⊥
 none_some e f = cc
 
 some_same : {X : Type 0} {o : Option X} {x y : X} → o ≡ Some x → o ≡ Some y → x ≡ y
@@ -51,7 +51,7 @@ pub template_unrefused : (n : ExpandedName) → IsXsl (codes "template") n → I
 template_unrefused n is = part_unrefused n (codes "template") refl refl is
 
 -- the form of the attribute that an element must have
-abbrev form_in : List ℕ → Option Form
+abbrev pub form_in : List ℕ → Option Form
 form_in local =
     if bytes_eq local (codes "apply-templates") then Some c.select
     else if bytes_eq local (codes "for-each") then Some c.select
@@ -62,10 +62,10 @@ form_in local =
     else if bytes_eq local (codes "when") then Some c.test
     else None
 
-abbrev its_form : ExpandedName → Option Form
+abbrev pub its_form : ExpandedName → Option Form
 its_form n = form_in n.local
 
-form_there : {n m : ExpandedName} {f : Form} → MustHave n m f → its_form n ≡ Some f
+pub form_there : {n m : ExpandedName} {f : Form} → MustHave n m f → its_form n ≡ Some f
 form_there (of_apply e) = ap its_form e
 form_there (of_each e) = ap its_form e
 form_there (of_copy e) = ap its_form e
@@ -105,7 +105,7 @@ must_be_unrefused n (of_if e) = instruction_unrefused n _ (ap instruction_of e)
 must_be_unrefused n (of_when e) = part_unrefused n (codes "when") refl refl e
 
 -- the attribute of an element that is refused for its value alone
-abbrev weighed_in : List ℕ → Option (List ℕ)
+abbrev pub weighed_in : List ℕ → Option (List ℕ)
 weighed_in local =
     if bytes_eq local (codes "apply-templates") then Some (codes "select")
     else if bytes_eq local (codes "for-each") then Some (codes "select")
@@ -119,10 +119,10 @@ weighed_in local =
     else if bytes_eq local (codes "transform") then Some (codes "version")
     else None
 
-abbrev its_weighed : ExpandedName → Option (List ℕ)
+abbrev pub its_weighed : ExpandedName → Option (List ℕ)
 its_weighed n = weighed_in n.local
 
-form_weighed : {n m : ExpandedName} {f : Form} → MustHave n m f → its_weighed n ≡ Some m.local
+pub form_weighed : {n m : ExpandedName} {f : Form} → MustHave n m f → its_weighed n ≡ Some m.local
 form_weighed (of_apply e) = ap its_weighed e
 form_weighed (of_each e) = ap its_weighed e
 form_weighed (of_copy e) = ap its_weighed e

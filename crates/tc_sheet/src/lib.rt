@@ -9,7 +9,7 @@ ghost use Rattle.tc_model.specs.SheetTextTrees.{is_used};
 ghost use Rattle.tc_model.specs.Sheets as sheets;
 ghost use Rattle.tc_sheet.specs.Changes.{mended, flattened, Changed};
 ghost use Rattle.tc_sheet.specs.Faults.{IsCause, IsUnsupported, IsTooDeep, IsUndefinedAt, IsLoopAt, NamesAgain, IsMalformedAt};
-ghost use Rattle.tc_sheet.specs.Laws.{HasLawfulSheet};
+ghost use Rattle.tc_sheet.specs.Laws.{HasLawfulSheet, HasNoSheetWithCause, HasSheetOrCause};
 ghost use Rattle.tc_sheet.specs.Views.{template as template_seen};
 ghost use Rattle.tc_sheet.specs.FaultClauses.{IsTold};
 
@@ -98,9 +98,11 @@ pub fn read_sheet<'b>(arena: &'b Bump, raw: &Raw<'b>) -> Result<Sheet<'b>, Sheet
     sheet_in(arena, element)
 }
 
-/// A law of stylesheets that are read. The stylesheet of a tree whose names and texts are lawful, as
+/// Laws of stylesheets that are read. The stylesheet of a tree whose names and texts are lawful, as
 /// `law_of_xml_texts` says of the trees of XML texts, is well-formed. `law_of_sheet_texts` says that a tree has at
-/// most one.
+/// most one. A tree of one element has a stylesheet or a cause for which it is refused, and not both.
 pub fn law_of_sheets()
-    ensures { HasLawfulSheet }
+    ensures lawful { HasLawfulSheet }
+    ensures none { HasNoSheetWithCause }
+    ensures some { HasSheetOrCause }
 {}
