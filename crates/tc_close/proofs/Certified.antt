@@ -4,6 +4,7 @@ use Rattle.std.specs.List.{Contains}
 use Rattle.std.proofs.lemmas.List.{length-map, get_or-map}
 use Rattle.std.proofs.lemmas.List.Elements.{All-map, All-get_or, All-from_get_or, All-weaker, Contains-get_or}
 use Rattle.std.proofs.lemmas.Simd.{map-map}
+use Rattle.tc_base.specs.declared.limits.TheConstants.{LONGEST_FILE}
 use Rattle.tc_cert.specs.Texts.{output_text}
 use Rattle.tc_cert.proofs.Apart.{one_output, one_tree as one_tree_line, one_hedge as one_hedge_line}
 use Rattle.tc_model.specs.CertificateData.{IsNumber, ArePairs, IsFormedTree, IsFormedHedge, IsFormed}
@@ -33,13 +34,15 @@ use Rattle.tc_beh.specs.declared.machine.Shape.{Shape}
 use Rattle.tc_beh.proofs.RoomIs.{outputs_count}
 use Rattle.tc_beh.proofs.RoomRows.{output_is}
 use Rattle.tc_settle.specs.Derived.{IsClosed, AllDerive}
-use Rattle.tc_close.specs.Certified.{AreNumbersOf, IsLeastCertificate, IsTooLong}
+use Rattle.tc_close.specs.Certified.{AreNumbersOf, IsLeastCertificate, HasLongCertificate}
 use Rattle.tc_close.specs.Lines.{tree_held, hedge_held, tree_ranked, hedge_ranked, sets_at, output_lines, tree_lines, hedge_lines, IsDataBy}
 use Rattle.tc_close.specs.Orders.{IsOrder, AreRanks, ranked}
 use Rattle.tc_close.specs.RowState.{RowState, hedge_at, tree_at, StandsInRow, AreGood, held_of, Known}
 use Rattle.tc_close.proofs.Linked.{tree_rows, hedge_rows, tree_listed, hedge_listed, tree_number, hedge_number, trees_come, hedges_come, one_tree, one_hedge, sets_different, sets_apart, in_set, set_in, made_at, made_of}
-use Rattle.tc_close.proofs.LeastHolds.{all_of, entries_are}
-use Rattle.tc_close.proofs.Ranked.{inside, all_there, ordered, row_of, row_there, each_line, many, same_mapped}
+use Rattle.tc_close.proofs.LeastHolds.{entries_are}
+use Rattle.tc_close.proofs.Ranked.{inside, all_there, lines_differ, ordered, row_of, row_there, each_line, many, same_mapped}
+use Rattle.tc_close.proofs.Sorting.{order_of, ranks_of}
+use Rattle.tc_close.proofs.TooLong.{text_is_long}
 
 abbrev tree_meant : List (List (ℕ × ℕ)) → TreeLine → TreeRow
 tree_meant sets l = tree_of sets (numbered_tree l)
@@ -271,6 +274,15 @@ module _ (x : Triple) (s : RowState) (IsOf : Triple → Type 0) (is : IsOf x) (k
       λ i. record { outputs = sym by.outputs i; trees = sym by.trees.all i; hedges = sym by.hedges.all i } in
       subst (IsLeastCertificate x) same (is_least numbers order by.ranks by.are by.trees.numbers by.trees.order by.hedges.numbers by.hedges.order)
 
-  -- where the lines of all sets have more bytes than there may be
-  pub too_long : 67108864 < length (flat_map output_text (sets_of held)) → IsTooLong x
-  too_long more = record { some = sets_of held; different = sets_different x s IsOf is known; each = all_of (IsOutput x) (sets_of held) output_of; more = more }
+  -- and there is one
+  pub there_is : (d : CertData) × IsLeastCertificate x d
+  there_is =
+      let (numbers, order) = order_of (output_lines s) (lines_differ pairs_line (λ k. pairs_of (set_at s.outputs k)) (length held) sets_one) in
+      let (ranks, are) = ranks_of (output_lines s) numbers order in
+      let (ts, tree_order) = order_of (tree_lines x s ranks) (lines_differ tree_line (tree_ranked x s ranks) (length s.trees) (trees_one numbers order ranks are)) in
+      let (hs, hedge_order) = order_of (hedge_lines x s ranks) (lines_differ hedge_line (hedge_ranked x s ranks) (length s.hedges) (hedges_one numbers order ranks are)) in
+      (data_of numbers order ranks are ts tree_order hs hedge_order, is_least numbers order ranks are ts tree_order hs hedge_order)
+
+  -- which is too long where the lines of all sets are
+  pub long_certificate : LONGEST_FILE < length (flat_map output_text (sets_of held)) → HasLongCertificate x
+  long_certificate more = let (d, least) = there_is in (d, least, text_is_long x d least (sets_of held) (sets_different x s IsOf is known) output_of more)

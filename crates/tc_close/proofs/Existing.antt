@@ -21,22 +21,9 @@ use Rattle.tc_rules.proofs.Collected.{in_sheet, each_number}
 use Rattle.tc_rules.proofs.SelectStates.{count_cons, settles}
 use Rattle.tc_rows.specs.Triples.{Triple, IsTriple}
 use Rattle.tc_close.specs.Triples.{IsTripleOf, TriplesAreThere}
+use Rattle.tc_close.proofs.Choosing.{Chosen, choose_each}
 use Rattle.tc_close.proofs.Reaching.{has_graph}
 use Rattle.tc_close.proofs.Least.{low_or_high}
-
--- a list of what there is for each number
-record Chosen {A : Type 0} (P : ℕ → A → Type 0) (n : ℕ) : Type 0 where
-  pub all : List A
-  pub count : length all ≡ n
-  pub each : (i : ℕ) → i < n → (a : A) × (slice_get all i ≡ Some a) × P i a
-
-choose_each : {A : Type 0} (P : ℕ → A → Type 0) (n : ℕ) → ((i : ℕ) → i < n → (a : A) × P i a) → Chosen P n
-choose_each P zero f = record { all = []; count = refl; each = λ i l. absurd (omega (arith, l)) }
-choose_each P (suc n) f =
-    let (a, p) = f 0 (omega arith) in
-    let more = choose_each (λ i. P (suc i)) n (λ i l. f (suc i) (omega (arith, l))) in
-    let each : (i : ℕ) → i < suc n → (b : _) × (slice_get (a ∷ more.all) i ≡ Some b) × P i b = elim [ zero ↦ λ l. (a, refl, p) | suc i ↦ λ l. more.each i (omega (arith, l)) ] in
-    record { all = a ∷ more.all; count = ap suc more.count; each = each }
 
 regroup : (a b k : ℕ) → (a + b) + k ≡ a + (b + k)
 regroup a b k = omega arith

@@ -3,6 +3,7 @@ pub mod Verdict
 pub mod Transport
 pub mod Agreeing
 pub mod Reaching
+pub mod Choosing
 pub mod Existing
 pub mod Keys
 pub mod Growing
@@ -18,6 +19,7 @@ pub mod LookFree
 pub mod FreeWraps
 pub mod KindLaws
 pub mod Ordered
+pub mod Sorting
 pub mod More
 pub mod Ranked
 pub mod Certified

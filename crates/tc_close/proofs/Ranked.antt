@@ -8,12 +8,23 @@ use Rattle.std.proofs.lemmas.Simd.{map-map}
 use Rattle.tc_model.specs.CertificateData.{AreOrdered}
 use Rattle.tc_model.specs.Numbered.{numbers_below}
 use Rattle.tc_rules.proofs.Pieces.{length_below, number_at}
+use Rattle.tc_rows.specs.Counts.{AreDifferent}
 use Rattle.tc_close.specs.Orders.{IsOrder, lines_at}
 use Rattle.tc_close.proofs.Linked.{made_at, made_of, different_of}
 
 -- the number at a place is that place
 pub number_there : (n i : ℕ) → i < n → get_or (numbers_below n) i 0 ≡ i
 number_there n i l = get_or_from_slice_get (numbers_below n) i i 0 (number_at n i l)
+
+-- lines of different numbers, where no two of them are the same
+pub lines_differ : {L : Type 0} (bytes : L → List ℕ) (f : ℕ → L) (n : ℕ) → ((p q : ℕ) → p < n → q < n → bytes (f p) ≡ bytes (f q) → p ≡ q) → AreDifferent (map (λ p. bytes (f p)) (numbers_below n))
+lines_differ bytes f n apart =
+    different_of (λ p. bytes (f p)) (numbers_below n) 0 (λ i j li lj e.
+    let mi : i < n = subst (λ m. i < m) (length_below n) li in
+    let mj : j < n = subst (λ m. j < m) (length_below n) lj in
+    let at_i : bytes (f (get_or (numbers_below n) i 0)) ≡ bytes (f i) = ap (λ q. bytes (f q)) (number_there n i mi) in
+    let at_j : bytes (f (get_or (numbers_below n) j 0)) ≡ bytes (f j) = ap (λ q. bytes (f q)) (number_there n j mj) in
+    apart i j mi mj (sym at_i ∙ (e ∙ at_j)))
 
 module _ {L R : Type 0} (bytes : L → List ℕ) (meant : L → R) (f : ℕ → L) (row : ℕ → R) (n : ℕ) (numbers : List ℕ) (order : IsOrder (map (λ p. bytes (f p)) (numbers_below n)) numbers) where
   abbrev lines : List (List ℕ)
@@ -43,14 +54,7 @@ module _ {L R : Type 0} (bytes : L → List ℕ) (meant : L → R) (f : ℕ → 
 
   -- where lines of different numbers are different, they ascend
   pub ordered : ((p q : ℕ) → p < n → q < n → bytes (f p) ≡ bytes (f q) → p ≡ q) → AreOrdered (map bytes (map f numbers))
-  ordered apart =
-      subst AreOrdered (same_lines numbers inside)
-      (order.ascend (different_of (λ p. bytes (f p)) (numbers_below n) 0 (λ i j li lj e.
-      let mi : i < n = subst (λ m. i < m) (length_below n) li in
-      let mj : j < n = subst (λ m. j < m) (length_below n) lj in
-      let at_i : bytes (f (get_or (numbers_below n) i 0)) ≡ bytes (f i) = ap (λ q. bytes (f q)) (number_there n i mi) in
-      let at_j : bytes (f (get_or (numbers_below n) j 0)) ≡ bytes (f j) = ap (λ q. bytes (f q)) (number_there n j mj) in
-      apart i j mi mj (sym at_i ∙ (e ∙ at_j)))))
+  ordered apart = subst AreOrdered (same_lines numbers inside) (order.ascend (lines_differ bytes f n apart))
 
   -- they mean the rows of all numbers
   module _ (means : (p : ℕ) → p < n → meant (f p) ≡ row p) (r : R) where

@@ -1,6 +1,7 @@
 -- Rows that are held by their numbers: what the numbers stand for over triples, and what is made of them.
 use Rattle.std.specs.Prelude.{◌≡◌, ◌<◌, ◌≤◌, ◌⊎◌, ◌++◌, ℕ, List, [], length, get_or, Bool, true, IsTrue}
 use Rattle.std.specs.List.{Contains}
+use Rattle.tc_base.specs.declared.limits.TheConstants.{MOST_OUTPUTS}
 use Rattle.tc_model.specs.Symbols.{symbol_count}
 use Rattle.tc_mat.specs.Held as mat
 use Rattle.tc_rows.specs.Triples.{Triple, IsTriple}
@@ -90,7 +91,7 @@ module _ (IsOf : Triple → Type 0) (s : RowState) where
   }
 
   abbrev pub IsFull : Type 0
-  IsFull = (length s.outputs.matrices ≡ 65536) × Each IsOf (λ x. IsFullBy x s)
+  IsFull = (length s.outputs.matrices ≡ MOST_OUTPUTS) × Each IsOf (λ x. IsFullBy x s)
 
   -- there is such a triple, the numbers are those of rows over each of them, and no two rows or sets are the same
   pub record Known : Type 0 where
@@ -101,7 +102,7 @@ module _ (IsOf : Triple → Type 0) (s : RowState) where
     pub hedges : AreDifferent s.hedges
     pub trees : AreDifferent s.trees
     pub outputs : mat.AreDifferent s.outputs
-    pub few : length s.outputs.matrices ≤ 65536
+    pub few : length s.outputs.matrices ≤ MOST_OUTPUTS
 
 -- what is held is held on, each under its number
 pub record Extended (a b : RowState) : Type 0 where

@@ -5,10 +5,11 @@ ghost use Rattle.tc_beh.specs.Held.{set_at};
 ghost use Rattle.tc_beh.specs.Outs.{sets_of};
 ghost use Rattle.tc_beh.specs.Places.{pairs_of};
 ghost use Rattle.tc_cert.specs.Texts.{output_text};
-ghost use Rattle.tc_close.specs.Certified.{IsLeastCertificate, IsTooLong};
+ghost use Rattle.tc_close.specs.Certified.{HasLongCertificate, IsLeastCertificate};
 ghost use Rattle.tc_close.specs.Lines as held;
 ghost use Rattle.tc_close.specs.Lines.{sets_at, tree_ranked, hedge_ranked, AreTreesInOrder, AreHedgesInOrder, IsDataBy};
 ghost use Rattle.tc_close.specs.Orders.{AreBelow, IsOrder};
+ghost use Rattle.tc_close.specs.RowState.{Known};
 ghost use Rattle.tc_close.specs.Settling.{AreAll};
 ghost use Rattle.tc_model.specs.CertificateLines as lines;
 ghost use Rattle.tc_rows.specs.Triples.{Triple};
@@ -300,8 +301,9 @@ pub(crate) fn cert_data<K: Over>(
     requires all { AreAll K.is_of rows.old }
     requires whole { rows.old.is_whole ≡ true }
     ensures same { rows.new ≡ rows.old }
-    ensures data { IfOk result
-        (λ o. (x : Triple) → K.is_of x → MatchOption o (IsTooLong x) (IsLeastCertificate x)) }
+    ensures known { Known K.is_of rows.old }
+    ensures data { IfOk result (λ o. (x : Triple) → K.is_of x
+        → MatchOption o (HasLongCertificate x) (IsLeastCertificate x)) }
 {
     let _outputs = rows.output_count();
     let _shape = rows.shape();

@@ -3,6 +3,7 @@
 // would have to ask that the rows are still those of the closure. What a certificate needs is a second call
 // beside it (`prove`).
 ghost use Rattle.std.specs.Prelude.{◌≡◌, ◌≤◌, IfOk, IfErr};
+ghost use Rattle.tc_base.specs.declared.limits.TheConstants.{GREATEST_LIMIT};
 ghost use Rattle.tc_beh.specs.Machines.{IsMachine, IsMachineOf};
 ghost use Rattle.tc_close.specs.Decisions.{IsDecided, IsCloseCause, KeepsCounts};
 ghost use Rattle.tc_close.specs.RowState.{held_of, IsFull};
@@ -173,7 +174,7 @@ fn decide_over<'b, K: Over>(
     most: u32,
 ) -> Result<Decision<'b>, CloseFault>
     requires over { AreOver K.is_of machine.now }
-    requires most { most ≤ 4000 }
+    requires most { most ≤ GREATEST_LIMIT }
     ensures decision { IfOk result (λ d. (x : Triple) → K.is_of x → IsDecided x most d) }
     ensures cause { IfErr result (λ e. (x : Triple) → K.is_of x → IsCloseCause x most e) }
 {
@@ -195,7 +196,7 @@ pub fn decide<'b>(
     most: u32,
 ) -> Result<Decision<'b>, CloseFault>
     requires machine { IsMachine machine.now }
-    requires most { most ≤ 4000 }
+    requires most { most ≤ GREATEST_LIMIT }
     ensures decision { IfOk result
         (λ d. (x : Triple) → IsMachineOf x machine.now → IsDecided x most d) }
     ensures cause { IfErr result

@@ -1,5 +1,5 @@
 // What is proved of costs.
-ghost use Rattle.tc_close.specs.Certified.{CertificatesAgree, LeastIsCertificate, OneCertificate, TooLongIsLong};
+ghost use Rattle.tc_close.specs.Certified.{CertificatesAgree, LeastIsCertificate, LiveRowsAreLeast, OneCertificate};
 ghost use Rattle.tc_close.specs.Least.{CostsAreLeast};
 ghost use Rattle.tc_close.specs.Triples.{TriplesAgree, TriplesAreThere};
 ghost use Rattle.tc_close.specs.Verdict.{ListsTell};
@@ -26,10 +26,11 @@ pub fn law_of_triples()
 
 /// The law of certificates: however the states of paths stand in tables, one certificate at most has exactly the rows of
 /// live trees and of live lists of trees, and exactly the sets of pairs in them; where the stylesheet is safe, it is a
-/// certificate; and what is a certificate is one however the states stand.
+/// certificate; and what is a certificate is one however the states stand. These rows are the least fixpoint of row
+/// arithmetic.
 pub fn law_of_certificates()
     ensures agree { CertificatesAgree }
     ensures one { OneCertificate }
     ensures holds { LeastIsCertificate }
-    ensures long { TooLongIsLong }
+    ensures least { LiveRowsAreLeast }
 {}

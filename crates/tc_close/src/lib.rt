@@ -7,6 +7,7 @@ mod decision;
 mod held;
 mod kinds;
 pub mod laws;
+mod listing;
 mod lists;
 mod look_free;
 mod number_hasher;
@@ -18,4 +19,5 @@ mod proof;
 mod rooms;
 
 pub use decision::{CloseFault, Counts, Decision, decide};
+pub use listing::list_rows;
 pub use proof::{Proof, prove};

@@ -1,10 +1,11 @@
 // Whether a stylesheet is safe between two schemas, with a certificate where it is, and a least counterexample where it isn't.
-ghost use Rattle.std.specs.Prelude.{◌≡◌, ◌≤◌, IfOk, IfErr, MatchOption};
+ghost use Rattle.std.specs.Prelude.{◌≡◌, ◌≤◌, ℕ, IfOk, IfErr, MatchOption};
 ghost use Rattle.tc_beh.specs.Machines.{IsMachine, IsMachineOf};
-ghost use Rattle.tc_close.specs.Certified.{IsProved, IsLeastCertificate, IsTooLong};
-ghost use Rattle.tc_close.specs.Decisions.{IsCloseCause};
+ghost use Rattle.tc_close.specs.Certified.{HasLongCertificate, IsLeastCertificate, IsProved};
+ghost use Rattle.tc_close.specs.Decisions.{IsCloseCause, KeepsCounts};
 ghost use Rattle.tc_close.specs.RowState.{held_of};
 ghost use Rattle.tc_rows.specs.Triples.{Triple};
+ghost use Rattle.tc_base.specs.declared.limits.TheConstants.{GREATEST_LIMIT};
 ghost use Rattle.tc_close.specs.Settling.{AreOver, IsSettled, IsStart};
 ghost use Rattle.tc_settle.specs.Held.{SameRows};
 
@@ -26,7 +27,8 @@ use tc_settle::Closed;
 pub enum Proof<'b> {
     /// Every valid document is made into a valid one, by this certificate.
     Certified(CertData),
-    /// Every valid document is made into a valid one, and the sets of pairs alone have more lines than a certificate may have.
+    /// Every valid document is made into a valid one, and its certificate has more bytes than one may have: the lines of the sets of
+    /// pairs alone have.
     TooLong,
     /// A valid document with a result that isn't valid, of the fewest nodes.
     Unsafe(Node<'b>),
@@ -34,16 +36,18 @@ pub enum Proof<'b> {
     TooManyNodes,
 }
 
-/// The certificate of all rows, where none fails.
-fn certified<'b, K: Over>(
+/// The certificate of all rows.
+pub(crate) fn certified<'b, K: Over>(
     alloc: Global,
     rows: &mut HeldRows<'_, 'b, K>,
     closed: &Closed,
 ) -> Result<Option<CertData>, NoMemory>
-    requires { IsSettled K.is_of rows.old closed.now 4000 }
+    requires { IsSettled K.is_of rows.old closed.now GREATEST_LIMIT }
     ensures same { rows.new ≡ rows.old }
-    ensures data { IfOk result
-        (λ o. (x : Triple) → K.is_of x → MatchOption o (IsTooLong x) (IsLeastCertificate x)) }
+    ensures data { IfOk result (λ o. (x : Triple) → K.is_of x
+        → MatchOption o (HasLongCertificate x) (IsLeastCertificate x)) }
+    ensures keeps { IfOk result (λ o. (x : Triple) (most : ℕ) → K.is_of x
+        → IsSettled K.is_of rows.old closed.now most → KeepsCounts x most) }
 {
     if !rows.is_whole() {
         return Err(NoMemory);
@@ -103,7 +107,7 @@ fn prove_over<'b, K: Over>(
     most: u32,
 ) -> Result<Proof<'b>, CloseFault>
     requires over { AreOver K.is_of machine.now }
-    requires most { most ≤ 4000 }
+    requires most { most ≤ GREATEST_LIMIT }
     ensures proof { IfOk result (λ p. (x : Triple) → K.is_of x → IsProved x most p) }
     ensures cause { IfErr result (λ e. (x : Triple) → K.is_of x → IsCloseCause x most e) }
 {
@@ -126,7 +130,7 @@ pub fn prove<'b>(
     most: u32,
 ) -> Result<Proof<'b>, CloseFault>
     requires machine { IsMachine machine.now }
-    requires most { most ≤ 4000 }
+    requires most { most ≤ GREATEST_LIMIT }
     ensures proof { IfOk result
         (λ p. (x : Triple) → IsMachineOf x machine.now → IsProved x most p) }
     ensures cause { IfErr result

@@ -4,7 +4,7 @@ use Rattle.tc_beh.specs.Outs.{sets_of}
 use Rattle.tc_cert.specs.Texts.{output_text}
 use Rattle.tc_close.specs.Lines.{output_lines}
 use Rattle.tc_close.specs.Orders.{IsOrder}
-use Rattle.tc_close.proofs.Certified.{least_certificate, too_long}
+use Rattle.tc_close.proofs.Certified.{least_certificate, long_certificate}
 use Rattle.tc_close.proofs.Pushed.{none_of, some_of}
 use Rattle.tc_close.proofs.HandedOn.{no_value}
 use Rattle.tc_close.proofs.certificate.cert_data.Goals as goal
@@ -12,7 +12,7 @@ use Rattle.tc_close.proofs.certificate.cert_data.Goals as goal
 pub returns-in_default-clause-data : goal.returns-in_default-clause-data
 returns-in_default-clause-data g c = λ x o.
     let s = c.args.rows.now in
-    too_long x s g.K.Over.is_of o c.output_count-outputs.ensures.known c.shape-shape.result (c.shape-shape.ensures.stands x o) c.shape-shape.ensures.fits c.requires.all.closed c.requires.all.derive c.requires.whole c.requires.all.trees c.requires.all.hedges
+    long_certificate x s g.K.Over.is_of o c.output_count-outputs.ensures.known c.shape-shape.result (c.shape-shape.ensures.stands x o) c.shape-shape.ensures.fits c.requires.all.closed c.requires.all.derive c.requires.whole c.requires.all.trees c.requires.all.hedges
     (none_of (LONGEST_FILE < length (flat_map output_text (sets_of s.outputs.matrices))) (λ (all : List (List ℕ)). all ≡ output_lines s) c.in_ok-lines.field-0 c.in_ok-lines.ensures c.in_default.is)
 
 pub returns-clause-same : goal.returns-clause-same

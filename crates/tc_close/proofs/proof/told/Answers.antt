@@ -1,7 +1,7 @@
 use Rattle.std.proofs.Common.{subst, sym, arith}
 use Rattle.tc_model.specs.declared.lists.CertData.{CertData}
 use Rattle.tc_settle.specs.Held.{SameRows}
-use Rattle.tc_close.specs.Certified.{IsLeastCertificate, IsTooLong}
+use Rattle.tc_close.specs.Certified.{HasLongCertificate, IsLeastCertificate}
 use Rattle.tc_close.specs.Decisions.{IsDecided}
 use Rattle.tc_close.specs.RowState.{RowState, held_of}
 use Rattle.tc_close.proofs.Carried.{closure_on}
@@ -24,13 +24,13 @@ pub returns-in-Ok-Some-clause-proof : goal.returns-in-Ok-Some-clause-proof
 returns-in-Ok-Some-clause-proof g c = λ x o.
     let decided = subst (IsDecided x c.args.most) c.in-Ok-Safe.field-0-is (c.in-Ok-Safe.ensures.decision x o) in
     let d : CertData = c.in-Ok-Some.data in
-    let least : IsLeastCertificate x d = some_of (IsTooLong x) (IsLeastCertificate x) c.in-Ok-Some.field-0 d (c.in-Ok-Some.ensures.data x o) c.in-Ok-Some.field-0-is in
+    let least : IsLeastCertificate x d = some_of (HasLongCertificate x) (IsLeastCertificate x) c.in-Ok-Some.field-0 d (c.in-Ok-Some.ensures.data x o) c.in-Ok-Some.field-0-is in
     (record { safe = decided.safe; keeps = decided.keeps }, least, least_holds x (c.requires.machine x o).parts.are_rules.triple decided.safe d least)
 
 pub returns-in-Ok-None-clause-proof : goal.returns-in-Ok-None-clause-proof
 returns-in-Ok-None-clause-proof g c = λ x o.
     let decided = subst (IsDecided x c.args.most) c.in-Ok-Safe.field-0-is (c.in-Ok-Safe.ensures.decision x o) in
-    (record { safe = decided.safe; keeps = decided.keeps }, none_of (IsTooLong x) (IsLeastCertificate x) c.in-Ok-None.field-0 (c.in-Ok-None.ensures.data x o) c.in-Ok-None.field-0-is)
+    (record { safe = decided.safe; keeps = decided.keeps }, none_of (HasLongCertificate x) (IsLeastCertificate x) c.in-Ok-None.field-0 (c.in-Ok-None.ensures.data x o) c.in-Ok-None.field-0-is)
 
 pub returns-in-Ok-Unsafe-clause-proof : goal.returns-in-Ok-Unsafe-clause-proof
 returns-in-Ok-Unsafe-clause-proof g c = λ x o. subst (IsDecided x c.args.most) c.in-Ok-Unsafe.field-0-is (c.in-Ok-Unsafe.ensures.decision x o)
