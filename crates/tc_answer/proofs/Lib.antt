@@ -11,3 +11,4 @@ pub mod NoCommand
 pub mod OperandWords
 pub mod Marked
 pub mod SpotLines
+mod Written

@@ -1,9 +1,9 @@
 -- The number before operands, behind a mark.
 use Rattle.std.proofs.Common.{ℕ, List, Option, Some, None, codes}
+use Rattle.tc_base.specs.declared.limits.TheConstants.{GREATEST_LIMIT}
 use Rattle.tc_answer.specs.Words.{Limits, PieceSizes}
 use Rattle.tc_answer.specs.Numbered.{Numbered}
 use Rattle.tc_answer.specs.declared.limits.TheConstants.{LARGEST_PIECE}
-use Rattle.tc_decide.specs.declared.limits.TheConstants.{GREATEST_LIMIT}
 
 -- a limit and the size of pieces are such a number
 pub limits_are : (words operands : List (List ℕ)) (limit : Option ℕ) → Numbered (codes "--limit") GREATEST_LIMIT words limit operands → Limits words limit operands

@@ -4,11 +4,11 @@ use Rattle.tc_decide.specs.Rejections.{Rejection}
 use Rattle.tc_decide.specs.RowCounts.{RowCount}
 use Rattle.tc_answer.specs.Lines.{line, limit_line, limit_word, count_word, safe_line, unsafe_lines, unsafe_large_lines, included_line, not_included_lines, different_lines, rejected_line}
 use Rattle.tc_answer.specs.SpotLines.{SpotUse, dead_count, spots_lines}
-use Rattle.tc_decide.specs.declared.limits.TheConstants.{MOST_SHOWN_NODES, LONGEST_CERTIFICATE, LONGEST_TAG, MOST_NAMES}
+use Rattle.tc_decide.specs.declared.limits.TheConstants.{LONGEST_CERTIFICATE}
 use Rattle.tc_answer.specs.declared.status.Status.{Status}
 use Rattle.tc_answer.specs.declared.status.Status.TheVariants.{Yes, No, Usage, Refused, Limit, ReadFault}
 use Rattle.tc_base.specs.declared.Limit as kinds
-use Rattle.tc_base.specs.declared.limits.TheConstants.{LONGEST_FILE, MOST_WORK, MOST_OPEN}
+use Rattle.tc_base.specs.declared.limits.TheConstants.{LONGEST_FILE, LONGEST_TAG, MOST_NAMES, MOST_OPEN, MOST_SHOWN_NODES, MOST_WORK}
 use Rattle.tc_model.specs.Printed.{printed}
 use Rattle.tc_model.specs.Trees.{Trees}
 use Rattle.tc_read.specs.Refusals.{reason_text}

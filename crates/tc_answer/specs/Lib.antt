@@ -9,3 +9,4 @@ pub mod Answers
 pub mod AnswersSeen
 pub mod SpotsSeen
 pub mod StatusSeen
+pub mod Writing

@@ -1,5 +1,5 @@
--- The lines of an answer, and the pieces in which a text is written.
-use Rattle.std.specs.Prelude.{◌≡◌, ◌<◌, ◌+◌, ℕ, List, [], ◌∷◌, ◌++◌, length, slice_index, codes, decimal}
+-- The lines of an answer.
+use Rattle.std.specs.Prelude.{ℕ, List, [], ◌∷◌, ◌++◌, codes, decimal}
 use Rattle.tc_base.specs.declared.Limit.{Limit}
 use Rattle.tc_base.specs.declared.Limit.TheVariants.{Pattern, Depth, Elements, States, Symbols, Predicates, Ancestors, Selects, Calls, Entries}
 use Rattle.tc_decide.specs.Rejections.{Rejection, form_fails, fit_fails, empty_fails, text_fails, append_fails, wrap_fails, root_fails}
@@ -81,7 +81,3 @@ rejection_text (root_fails n) = decimal n ++ codes " root"
 
 abbrev pub rejected_line : Rejection → List ℕ
 rejected_line why = line (codes "rejected " ++ rejection_text why)
-
--- a piece doesn't reach past a line feed: one stands at its end at most
-abbrev pub IsPiece : List ℕ → Type 0
-IsPiece piece = (k : ℕ) → k < length piece → slice_index piece k ≡ 10 → k + 1 ≡ length piece

@@ -2,9 +2,9 @@
 use Rattle.std.specs.Prelude.{◌≡◌, ◌≢◌, ◌≤◌, ℕ, ◌+◌, ◌*◌, ◌-◌, List, [], ◌∷◌, Option, Some, None, Bool, false, not, ◌==◌, IsTrue, codes, slice_get}
 use Rattle.std.specs.Char.{is_ascii_digit}
 use Rattle.std.specs.List.{list_all}
+use Rattle.tc_base.specs.declared.limits.TheConstants.{GREATEST_LIMIT}
 use Rattle.tc_answer.specs.SchemaWords.{file_of, IsSchemaWord}
 use Rattle.tc_answer.specs.declared.limits.TheConstants.{LARGEST_PIECE, MOST_DEMO}
-use Rattle.tc_decide.specs.declared.limits.TheConstants.{GREATEST_LIMIT}
 
 -- a command, with its operands in the order of the words; of those in a schema's place SchemaWords says what they name
 pub data Command : Type 0 where

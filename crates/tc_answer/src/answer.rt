@@ -15,9 +15,11 @@ use crate::buffer::Buffer;
 use crate::spots::{count_dead, put_places, put_spots, status_by_dead};
 use crate::status::Status;
 use std::alloc::Global;
-use tc_base::limits::{LONGEST_FILE, MOST_OPEN, MOST_WORK};
+use tc_base::limits::{
+    LONGEST_FILE, LONGEST_TAG, MOST_NAMES, MOST_OPEN, MOST_SHOWN_NODES, MOST_WORK,
+};
 use tc_base::{Limit, NoMemory, Place};
-use tc_decide::limits::{LONGEST_CERTIFICATE, LONGEST_TAG, MOST_NAMES, MOST_SHOWN_NODES};
+use tc_decide::limits::LONGEST_CERTIFICATE;
 use tc_decide::{Rejection, RowCount, SpotTold};
 use tc_model::Node;
 use tc_read::Reason;
@@ -446,14 +448,14 @@ impl Answer {
     pub fn tag_limit(alloc: Global) -> Result<Answer, NoMemory>
         ensures { IfOk result (λ said. Says said a.tag_limit) }
     {
-        over(alloc, "tag", LONGEST_TAG)
+        over(alloc, "tag", LONGEST_TAG as u32)
     }
 
     /// The names of the open elements of a document that comes in pieces have too many bytes.
     pub fn names_limit(alloc: Global) -> Result<Answer, NoMemory>
         ensures { IfOk result (λ said. Says said a.names_limit) }
     {
-        over(alloc, "names", MOST_NAMES)
+        over(alloc, "names", MOST_NAMES as u32)
     }
 
     /// The result of a run.

@@ -21,6 +21,9 @@ impl Sink for Buffer {
 
     ghost faults = { λ buffer. buffer.refusals };
 
+    // Nobody asks which writes there were.
+    ghost write_gives = { λ _ _ _ _. Unit {0} };
+
     fn write(&mut self, piece: &[u8]) -> Result<(), WriteFault> {
         if self.bytes.extend_from_slice(piece).is_err() {
             self.refusals = self.refusals.saturating_add(1);

@@ -8,7 +8,7 @@ ghost use Rattle.tc_answer.specs.declared.limits.TheConstants.{LARGEST_PIECE};
 
 use crate::limits::{LARGEST_PIECE, MOST_DEMO};
 use crate::sources::is_schema_word;
-use tc_decide::limits::GREATEST_LIMIT;
+use tc_base::limits::GREATEST_LIMIT;
 
 /// The operands of a check: the names of two schemas and a stylesheet.
 #[derive(Clone, Copy)]

@@ -1,8 +1,8 @@
 // Writing a text line by line.
-ghost use Rattle.std.specs.Prelude.{◌≡◌, ◌≢◌, ◌≤◌, ◌<◌, ◌++◌, [], length, OnOk, OnErr};
+ghost use Rattle.std.specs.Prelude.{◌≡◌, ◌≢◌, ◌≤◌, ◌<◌, ◌++◌, ◌∷◌, [], List, length, OnOk, OnErr};
 ghost use Rattle.tc_io.specs.Faults.{Rose};
-ghost use Rattle.tc_io.specs.Sink.{Appended, WroteFront};
-ghost use Rattle.tc_answer.specs.Lines.{IsPiece};
+ghost use Rattle.tc_io.specs.Sink.{Appended, AreWrites, Write, WroteFront};
+ghost use Rattle.tc_answer.specs.Writing.{AreWritten, BreakOff, lines_of};
 
 use memchr::memchr;
 use tc_io::{Sink, WriteFault};
@@ -11,22 +11,27 @@ use tc_io::{Sink, WriteFault};
 pub fn write_lines<K: Sink>(text: &[u8], sink: &mut K) -> Result<(), WriteFault>
     ensures count { K.faults sink.old ≤ K.faults sink.new }
     ensures ok { OnOk result (Appended (K.written sink.old) (K.written sink.new) text.now) }
+    ensures whole { OnOk result ((writes : List Write)
+        × AreWrites K.write_gives sink.old writes sink.new
+        × AreWritten (lines_of text.now) writes) }
     ensures fault { OnErr result (WroteFront (K.written sink.old) (K.written sink.new) text.now) }
+    ensures broken { OnErr result ((writes : List Write)
+        × AreWrites K.write_gives sink.old writes sink.new × BreakOff (lines_of text.now) writes) }
     ensures rose { OnErr result (Rose (K.faults sink.old) (K.faults sink.new)) }
 {
     let mut rest = text;
     while !rest.is_empty() {
-        let (piece, behind) = split_piece(rest);
-        write_piece(piece, sink)?;
+        let (line, behind) = split_line(rest);
+        sink.write(line)?;
         rest = behind;
     }
     Ok(())
 }
 
 /// The first line with its line feed, and what stands behind it.
-fn split_piece(text: &[u8]) -> (&[u8], &[u8])
+fn split_line(text: &[u8]) -> (&[u8], &[u8])
     requires { text.now ≢ [] }
-    ensures piece { IsPiece result.0.now }
+    ensures first { lines_of text.now ≡ result.0.now ∷ lines_of result.1.now }
     ensures parts { result.0.now ++ result.1.now ≡ text.now }
     ensures shorter { length result.1.now < length text.now }
 {
@@ -34,15 +39,4 @@ fn split_piece(text: &[u8]) -> (&[u8], &[u8])
         Some(end) => text.split_at(end + 1),
         None => text.split_at(text.len()),
     }
-}
-
-/// Writes a piece, which doesn't reach past a line feed.
-fn write_piece<K: Sink>(piece: &[u8], sink: &mut K) -> Result<(), WriteFault>
-    requires { IsPiece piece.now }
-    ensures count { K.faults sink.old ≤ K.faults sink.new }
-    ensures ok { OnOk result (Appended (K.written sink.old) (K.written sink.new) piece.now) }
-    ensures fault { OnErr result (WroteFront (K.written sink.old) (K.written sink.new) piece.now) }
-    ensures rose { OnErr result (Rose (K.faults sink.old) (K.faults sink.new)) }
-{
-    sink.write(piece)
 }

@@ -4,7 +4,7 @@ use Rattle.tc_alpha.proofs.Members.{has_from_contains}
 use Rattle.tc_auto.specs.Stands as a
 use Rattle.tc_auto.specs.declared.auto.Auto.{Auto}
 use Rattle.tc_base.specs.declared.Limit.{Limit}
-use Rattle.tc_base.specs.declared.limits.TheConstants.{MOST_INPUT_STATES}
+use Rattle.tc_base.specs.declared.limits.TheConstants.{MOST_INPUT_STATES, MOST_SHOWN_NODES}
 use Rattle.tc_decide.specs.Comparing.{Question, inclusion, equality, PassesPairLimit, by_first, by_second, by_symbols, AreWithinPairLimits, HasManyCovers, many_trees, many_hedges, HasFewCovers, symbols_of_both, forward, backward, IsOfOne, IsShown, AreKept, IsSo, Refutes, AreTooMany, in_inclusion, in_first, in_second, HasSmallRefutation, HasLargeRefutations, IsLeastRefutation, PassesComparison, OnIncluded, IfNotIncluded, OnSame, IfDifferent, DecidesInclusion, DecidesEquality, TellsInclusionCounts, TellsEqualityLimit}
 use Rattle.tc_decide.specs.ComparingSeen.{of_covers, HasFewNodes, IsPairOf, FindsInclusion, FindsOneOnly, FindsEquality}
 use Rattle.tc_decide.specs.Limits.{IsWithinLimits, AreFew}
@@ -16,7 +16,7 @@ use Rattle.tc_decide.specs.declared.failure.Failure.{Failure}
 use Rattle.tc_decide.specs.declared.failure.Failure.TheVariants.{Refused, Passes, NoMemory}
 use Rattle.tc_decide.specs.declared.failure.Kind.{Kind}
 use Rattle.tc_decide.specs.declared.failure.Kind.TheVariants.{Texts, Rows, Nodes, Certificate, Work, Open, Pieces}
-use Rattle.tc_decide.specs.declared.limits.TheConstants.{MOST_ROWS, MOST_SHOWN_NODES}
+use Rattle.tc_decide.specs.declared.limits.TheConstants.{MOST_ROWS}
 use Rattle.tc_decide.specs.declared.verdict.Equality.{Equality}
 use Rattle.tc_decide.specs.declared.verdict.Equality.TheVariants.{Same, FirstOnly, SecondOnly}
 use Rattle.tc_decide.specs.declared.verdict.Inclusion as verdict

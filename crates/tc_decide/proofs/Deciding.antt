@@ -1,11 +1,12 @@
 -- What is found decides: each verdict and each failure by its cause, and the causes exclude one another.
 use Rattle.std.proofs.Common.{◌≡◌, ◌⊎◌, inl, inr, refl, subst, ℕ, Result, Ok, Err, OnOk, arith}
+use Rattle.tc_base.specs.declared.limits.TheConstants.{MOST_SHOWN_NODES}
 use Rattle.tc_close.specs.Decisions.{IsDecided, IsCloseCause}
 use Rattle.tc_close.specs.declared.decision.CloseFault.{CloseFault}
 use Rattle.tc_close.specs.declared.decision.CloseFault.TheVariants.{TooManyTrees, TooManyHedges, TooManyOutputs, NoMemory as close_memory}
 use Rattle.tc_close.specs.declared.decision.Counts.{Counts}
 use Rattle.tc_close.specs.declared.decision.Decision.TheVariants as decision
-use Rattle.tc_decide.specs.Checking.{IsWithinTripleLimits, IsCounter, IsLeastCounter, HasFewestNodes, HasSmallCounter, HasLargeCounters}
+use Rattle.tc_decide.specs.Checking.{IsWithinTripleLimits, IsCounter, IsLeastCounter, HasSmallCounter, HasLargeCounters}
 use Rattle.tc_decide.specs.Deciding.{OnSafe, IfUnsafe, IsShownBy, KeepsAll, PassesFirst, IsOutputOf, DecidesSafety, DecidesWithin, TellsCounts, IsCounted}
 use Rattle.tc_decide.specs.RowCounts.{trees, hedges, outputs, row_count}
 use Rattle.tc_decide.specs.TextsSeen.{of_close, IsFound}
@@ -13,7 +14,6 @@ use Rattle.tc_decide.specs.declared.failure.Failure.{Failure}
 use Rattle.tc_decide.specs.declared.failure.Failure.TheVariants.{Refused, Passes, NoMemory}
 use Rattle.tc_decide.specs.declared.failure.Kind.{Kind}
 use Rattle.tc_decide.specs.declared.failure.Kind.TheVariants.{Texts, Rows, Nodes, Certificate, Work, Open, Pieces}
-use Rattle.tc_decide.specs.declared.limits.TheConstants.{MOST_SHOWN_NODES}
 use Rattle.tc_decide.specs.declared.verdict.Output.{Output}
 use Rattle.tc_decide.specs.declared.verdict.Output.TheVariants.{Shown, TooLarge}
 use Rattle.tc_decide.specs.declared.verdict.Verdict.{Verdict}
@@ -39,7 +39,7 @@ not_both i o s {document} all (result, found) =
 
 -- one that can be shown, and none that can
 pub near_far : {i o : Grammar} {s : Sheet} {document : Trees} → IsLeastCounter i o s document → HasLargeCounters i o s → ⊥
-near_far {document = document} x y = let far = y.large document x.counter in omega (arith, x.few, far)
+near_far {document = document} x y = let far = y.large document x.counter in omega (arith, x.fewest.few, far)
 
 pub small_far : {i o : Grammar} {s : Sheet} → HasSmallCounter i o s → HasLargeCounters i o s → ⊥
 small_far (document, counter, few) large = let far = large.large document counter in omega (arith, few, far)
@@ -65,7 +65,7 @@ module _ (most : ℕ) (i o : Grammar) (s : Sheet) where
   }
 
   pub small_of : {document : Trees} → IsLeastCounter i o s document → HasSmallCounter i o s
-  small_of {document} l = (document, l.counter, l.few)
+  small_of {document} l = (document, l.counter, l.fewest.few)
 
   is_no : (document : _) (output : Output) → KeepsAll i o s most → IsLeastCounter i o s (see.before document none) → IsOutputOf s (see.before document none) output
       → DecidesWithin most i o s (Ok (Unsafe document output))
@@ -114,15 +114,12 @@ module _ (most : ℕ) (i o : Grammar) (s : Sheet) where
   pub counted : (result : Result Verdict Failure) → IsFound most i o s result → IsCounted most i o s result
   counted result f = record { limits = decides result f; numbers = counts result f }
 
-  pub fewest : {document : Trees} → IsLeastCounter i o s document → HasFewestNodes i o s document
-  fewest l = record { few = l.few; least = l.least }
-
   pub headline : (result : Result Verdict Failure) → IsFound most i o s result → OnOk result (DecidesSafety i o s result)
   headline (Ok (Safe n)) f = record { yes = (λ _. f.2, λ _. tt); no = (λ e. absurd e, λ x. absurd (not_both i o s f.2 x.1)); least = tt }
   headline (Ok (Unsafe document output)) f = record {
     yes = (λ e. absurd e, λ h. absurd (not_both i o s h f.1.counter));
     no = (λ _. small_of f.1, λ _. tt);
-    least = (shown_by (see.before document none) output f.1.counter f.2, fewest f.1);
+    least = (shown_by (see.before document none) output f.1.counter f.2, f.1.fewest);
   }
   headline (Err failure) f = tt
 

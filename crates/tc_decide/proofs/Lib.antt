@@ -21,3 +21,4 @@ pub mod CopiedTrees
 pub mod SpotLimits
 pub mod Stages
 pub mod SpotsTold
+mod SchemaTextLaws

@@ -1,6 +1,7 @@
 -- What is proved decides: each proof and each failure by its cause, and the causes exclude one another.
 use Rattle.std.specs.Global.{Vec}
 use Rattle.std.proofs.Common.{◌≡◌, ◌<◌, ◌≤◌, ◌⊎◌, inl, inr, refl, ap, subst, ℕ, length, Result, Ok, Err, OnOk, arith}
+use Rattle.tc_base.specs.declared.limits.TheConstants.{MOST_SHOWN_NODES}
 use Rattle.tc_cert.specs.Texts.{text, by_changes}
 use Rattle.tc_cert.specs.declared.text.CertWriteFault.{CertWriteFault}
 use Rattle.tc_cert.specs.declared.text.CertWriteFault.TheVariants as write
@@ -11,8 +12,7 @@ use Rattle.tc_close.specs.declared.decision.CloseFault.TheVariants.{TooManyTrees
 use Rattle.tc_close.specs.declared.proof.Proof.TheVariants as closed
 use Rattle.tc_close.proofs.Agreeing.{triples_agree}
 use Rattle.tc_close.proofs.OneCertificate.{one_certificate}
-use Rattle.tc_close.proofs.TooLong.{text_is_long}
-use Rattle.tc_decide.specs.Certificates.{OnCertified, IfRefuted, IsLeastOf, IsOverlong, long_text, long_outputs, HasShortCertificate, PassesInProof, DecidesProof, DecidesProofWithin, TellsLimit, IsCountedProof}
+use Rattle.tc_decide.specs.Certificates.{OnCertified, IfRefuted, IsLeastOf, IsOverlong, HasShortCertificate, PassesInProof, DecidesProof, DecidesProofWithin, TellsLimit, IsCountedProof}
 use Rattle.tc_decide.specs.Checking.{IsWithinTripleLimits, HasSmallCounter}
 use Rattle.tc_decide.specs.Deciding.{IsShownBy, KeepsAll, IsOutputOf}
 use Rattle.tc_decide.specs.TextsSeen.{of_close, of_write, IsProved}
@@ -20,11 +20,11 @@ use Rattle.tc_decide.specs.declared.failure.Failure.{Failure}
 use Rattle.tc_decide.specs.declared.failure.Failure.TheVariants.{Refused, Passes, NoMemory}
 use Rattle.tc_decide.specs.declared.failure.Kind.{Kind}
 use Rattle.tc_decide.specs.declared.failure.Kind.TheVariants.{Texts, Rows, Nodes, Certificate, Work, Open, Pieces}
-use Rattle.tc_decide.specs.declared.limits.TheConstants.{LONGEST_CERTIFICATE, MOST_SHOWN_NODES}
+use Rattle.tc_decide.specs.declared.limits.TheConstants.{LONGEST_CERTIFICATE}
 use Rattle.tc_decide.specs.declared.verdict.Output.{Output}
 use Rattle.tc_decide.specs.declared.verdict.Proof.{Proof}
 use Rattle.tc_decide.specs.declared.verdict.Proof.TheVariants.{Certified, Unsafe}
-use Rattle.tc_decide.proofs.Deciding.{not_both, not_kept, small_of, shown_by, fewest}
+use Rattle.tc_decide.proofs.Deciding.{not_both, not_kept, small_of, shown_by}
 use Rattle.tc_decide.proofs.Found.{FindsLimits}
 use Rattle.tc_decide.proofs.Triples.{itself, few_rows, least_counter}
 use Rattle.tc_model.specs.Grammars.{Grammar}
@@ -44,8 +44,7 @@ module _ {i o : Grammar} {s : Sheet} where
 
   -- what is too long has no shorter text
   pub short_overlong : (d : CertData) → IsLeastOf i o s d → length (text by_changes d) ≤ LONGEST_CERTIFICATE → IsOverlong i o s → ⊥
-  short_overlong d l short (long_text {d = e} m long) = let same = ap (λ (c : CertData). length (text by_changes c)) (one_least d e l m) in omega (arith, same, short, long)
-  short_overlong d (y, b, l) short (long_outputs {x} a long) = let more = text_is_long x y (triples_agree i o s x y a b) long d l in omega (arith, more, short)
+  short_overlong d l short (e, m, long) = let same = ap (λ (c : CertData). length (text by_changes c)) (one_least d e l m) in omega (arith, same, short, long)
 
 module _ (most : ℕ) (i o : Grammar) (s : Sheet) where
   -- a limit that is passed isn't kept, and then there is neither a certificate nor a counterexample
@@ -117,7 +116,7 @@ module _ (most : ℕ) (i o : Grammar) (s : Sheet) where
     yes = (λ e. absurd e, λ h. absurd (not_both i o s h f.1.counter));
     certificate = tt;
     no = (λ _. small_of most i o s f.1, λ _. tt);
-    least = (shown_by most i o s (see.before document none) output f.1.counter f.2, fewest most i o s f.1);
+    least = (shown_by most i o s (see.before document none) output f.1.counter f.2, f.1.fewest);
   }
   proved (Err failure) f = tt
 
@@ -136,11 +135,11 @@ module _ (x : Triple) (is : IsTriple x) (w : IsWithinTripleLimits x.input x.outp
 
   pub unwritten : (d : CertData) → IsSafeWithin x most → IsLeastCertificate x d → (fault : CertWriteFault) → (fault ≡ write.TooLong → LONGEST_CERTIFICATE < length (text by_changes d))
       → IsProved most x.input x.output (t.sheet x) (Err (of_write fault))
-  unwritten d h l write.TooLong long = ((w, few_rows x is h.keeps), h.safe, long_text (x, itself x is, l) (long refl), refl)
+  unwritten d h l write.TooLong long = ((w, few_rows x is h.keeps), h.safe, (d, (x, itself x is, l), long refl), refl)
   unwritten d h l write.NoMemory long = tt
 
   pub too_long : IsClosed x most closed.TooLong → IsProved most x.input x.output (t.sheet x) (Err (Passes Certificate LONGEST_CERTIFICATE))
-  too_long (h, long) = ((w, few_rows x is h.keeps), h.safe, long_outputs (itself x is) long, refl)
+  too_long (h, (d, least, long)) = ((w, few_rows x is h.keeps), h.safe, (d, (x, itself x is, least), long), refl)
 
   pub refuted : (document : _) (output : Output) → IsClosed x most (closed.Unsafe document) → IsOutputOf (t.sheet x) (see.before document none) output
       → IsProved most x.input x.output (t.sheet x) (Ok (Unsafe document output))

@@ -1,5 +1,6 @@
 -- What is so of a triple is so of its schemas and its stylesheet.
 use Rattle.std.proofs.Common.{◌≡◌, inl, inr, refl, sym, ap, subst, ℕ, List}
+use Rattle.tc_base.specs.declared.limits.TheConstants.{MOST_OUTPUTS}
 use Rattle.tc_beh.specs.Machines.{IsMachineOf}
 use Rattle.tc_beh.specs.declared.machine.Machine.{Machine}
 use Rattle.tc_close.specs.Decisions.{KeepsCounts, IsUnsafeBy}
@@ -7,7 +8,6 @@ use Rattle.tc_close.specs.Triples.{IsTripleOf}
 use Rattle.tc_close.proofs.Agreeing.{triples_agree}
 use Rattle.tc_decide.specs.Checking.{HasFewRows, IsLeastCounter, IsLargeRun}
 use Rattle.tc_decide.specs.RowCounts.{trees, hedges, outputs}
-use Rattle.tc_decide.specs.declared.limits.TheConstants.{MOST_OUTPUTS}
 use Rattle.tc_model.specs.Grammars.{Grammar}
 use Rattle.tc_model.specs.Sheets.{Sheet}
 use Rattle.tc_model.specs.Symbols.{Mention}
@@ -40,7 +40,7 @@ module _ (x : Triple) (is : IsTriple x) where
   few_rows {most} keeps outputs (y, of, many) = keeps.outputs (((triples_agree x.input x.output (t.sheet x) y x of (itself x is)).outputs.pass MOST_OUTPUTS).0 many)
 
   pub least_counter : {most : ℕ} {document : Trees} → IsUnsafeBy x most document → IsLeastCounter x.input x.output (t.sheet x) document
-  least_counter h = record { counter = h.counter; plain = (x, itself x is, h.plain); few = h.few; least = h.least }
+  least_counter h = record { counter = h.counter; plain = (x, itself x is, h.plain); fewest = record { few = h.few; least = h.least } }
 
 -- the run of rules is that of their stylesheet
 pub rules_sheet : {x : Triple} {m : Machine} → IsMachineOf x m → (told m.rules).sheet ≡ t.sheet x

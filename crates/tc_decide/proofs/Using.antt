@@ -53,7 +53,7 @@ module _ (i : Grammar) (s : Sheet) (p : Spot) (telling : IsTelling s p) where
   dead_of safe d valid reached = let good = safe d valid in not_plain s p d good.0 (telling.tells d good.0 good.1) reached good.2
 
   pub least_of : (d : Trees) → IsLeastCounter i plain_schema (marked_at p s) d → IsLeastUse i s p d
-  least_of d x = record { uses = uses_of d x.counter; plain = x.plain; few = x.few; least = λ other y. x.least other (counter_of other y) }
+  least_of d x = record { uses = uses_of d x.counter; plain = x.plain; few = x.fewest.few; least = λ other y. x.fewest.least other (counter_of other y) }
 
   pub large_of : HasLargeCounters i plain_schema (marked_at p s) → HasLargeUses i s p
   large_of x = record { some = (x.some.0, uses_of x.some.0 x.some.1); large = λ d y. x.large d (counter_of d y) }

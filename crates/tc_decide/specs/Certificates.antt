@@ -1,7 +1,7 @@
 -- Certificates of two schemas and a stylesheet, and what is proved of their texts.
 use Rattle.std.specs.Prelude.{◌≡◌, ◌<◌, ◌≤◌, ◌⊎◌, ◌↔◌, ℕ, List, length, Result, Ok, Err}
 use Rattle.tc_cert.specs.Texts.{text, by_changes}
-use Rattle.tc_close.specs.Certified.{IsLeastCertificate, IsTooLong}
+use Rattle.tc_close.specs.Certified.{IsLeastCertificate}
 use Rattle.tc_close.specs.Triples.{IsTripleOf}
 use Rattle.tc_decide.specs.Checking.{IsLeastCounter, HasFewestNodes, HasSmallCounter}
 use Rattle.tc_decide.specs.Deciding.{IsShownBy, KeepsAll, PassesFirst, IsOutputOf}
@@ -57,10 +57,9 @@ module _ (i o : Grammar) (s : Sheet) where
   abbrev pub IsLeastOf : CertData → Type 0
   IsLeastOf d = (x : Triple) × IsTripleOf i o s x × IsLeastCertificate x d
 
-  -- the text of this certificate has more bytes than a certificate may have; or, where it isn't made, the lines of its sets of pairs alone have
-  pub data IsOverlong : Type 0 where
-    long_text : {d : CertData} → IsLeastOf d → LONGEST_CERTIFICATE < length (text by_changes d) → IsOverlong
-    long_outputs : {x : Triple} → IsTripleOf i o s x → IsTooLong x → IsOverlong
+  -- the certificate with exactly the rows of what is live is too long
+  abbrev pub IsOverlong : Type 0
+  IsOverlong = (d : CertData) × IsLeastOf d × (LONGEST_CERTIFICATE < length (text by_changes d))
 
   -- the certificate with exactly the rows of what is live isn't too long
   abbrev pub HasShortCertificate : Type 0

@@ -2,7 +2,7 @@
 use Rattle.std.specs.Prelude.{◌<◌, ◌≤◌, ◌⊎◌, ℕ}
 use Rattle.tc_base.specs.declared.Limit.{Limit}
 use Rattle.tc_base.specs.declared.Limit.TheVariants.{Calls, Entries}
-use Rattle.tc_base.specs.declared.limits.TheConstants.{MOST_INPUT_STATES, MOST_OUTPUT_STATES, DEEPEST_CALLS, MOST_ENTRIES, MOST_WORK, MOST_OPEN}
+use Rattle.tc_base.specs.declared.limits.TheConstants.{DEEPEST_CALLS, MOST_ENTRIES, MOST_INPUT_STATES, MOST_OPEN, MOST_OUTPUTS, MOST_OUTPUT_STATES, MOST_SHOWN_NODES, MOST_WORK}
 use Rattle.tc_close.specs.Triples.{IsTripleOf}
 use Rattle.tc_model.specs.Grammars.{Grammar}
 use Rattle.tc_model.specs.Outcomes.{Outcome}
@@ -16,7 +16,6 @@ use Rattle.tc_rows.specs.Derivations.{ArePlain}
 use Rattle.tc_rows.specs.Triples.{Triple}
 use Rattle.tc_decide.specs.Limits.{IsWithinLimits, PassesLimit, IsWithinSheetLimits, SheetPasses}
 use Rattle.tc_decide.specs.RowCounts.{RowCount, trees, hedges, outputs}
-use Rattle.tc_decide.specs.declared.limits.TheConstants.{MOST_OUTPUTS, MOST_SHOWN_NODES}
 
 -- how many there may be of what is counted
 abbrev pub most_of : ℕ → RowCount → ℕ
@@ -75,17 +74,16 @@ module _ (i o : Grammar) (s : Sheet) where
   abbrev pub IsPlain : Trees → Type 0
   IsPlain document = (x : Triple) × IsTripleOf i o s x × ArePlain x document
 
-  -- a counterexample that can be shown, with the fewest nodes of all
-  pub record IsLeastCounter (document : Trees) : Type 0 where
-    pub counter : IsCounter document
-    pub plain : IsPlain document
-    pub few : node_count document ≤ MOST_SHOWN_NODES
-    pub least : (other : Trees) → IsCounter other → node_count document ≤ node_count other
-
   -- it has few enough nodes to be shown, and no counterexample has fewer
   pub record HasFewestNodes (document : Trees) : Type 0 where
     pub few : node_count document ≤ MOST_SHOWN_NODES
     pub least : (other : Trees) → IsCounter other → node_count document ≤ node_count other
+
+  -- a counterexample that can be shown, with the fewest nodes of all
+  pub record IsLeastCounter (document : Trees) : Type 0 where
+    pub counter : IsCounter document
+    pub plain : IsPlain document
+    pub fewest : HasFewestNodes document
 
   -- some counterexample can be shown
   abbrev pub HasSmallCounter : Type 0

@@ -2,7 +2,7 @@
 use Rattle.std.specs.Prelude.{◌≡◌, ◌<◌, ◌≤◌, ◌⊎◌, ◌↔◌, ◌++◌, ℕ, List, Result, Ok, Err}
 use Rattle.tc_base.specs.declared.Limit.{Limit}
 use Rattle.tc_base.specs.declared.Limit.TheVariants.{Symbols}
-use Rattle.tc_base.specs.declared.limits.TheConstants.{MOST_INPUT_STATES, MOST_SYMBOLS}
+use Rattle.tc_base.specs.declared.limits.TheConstants.{MOST_INPUT_STATES, MOST_SHOWN_NODES, MOST_SYMBOLS}
 use Rattle.tc_decide.specs.Limits.{IsWithinLimits, PassesLimit, AreFew, symbols_of_mentions}
 use Rattle.tc_decide.specs.RowCounts.{RowCount, trees, hedges, row_count}
 use Rattle.tc_decide.specs.Texts.{IsSpelled, IsRefused}
@@ -13,7 +13,7 @@ use Rattle.tc_decide.specs.declared.failure.Kind.{Kind}
 use Rattle.tc_decide.specs.declared.failure.Kind.TheVariants.{Texts, Rows, Nodes}
 use Rattle.tc_decide.specs.declared.failure.Which.{Which}
 use Rattle.tc_decide.specs.declared.failure.Which.TheVariants as which
-use Rattle.tc_decide.specs.declared.limits.TheConstants.{MOST_ROWS, MOST_SHOWN_NODES}
+use Rattle.tc_decide.specs.declared.limits.TheConstants.{MOST_ROWS}
 use Rattle.tc_decide.specs.declared.schemas.SchemaText.{SchemaText}
 use Rattle.tc_decide.specs.declared.verdict.Equality.{Equality}
 use Rattle.tc_decide.specs.declared.verdict.Equality.TheVariants.{Same, FirstOnly, SecondOnly}

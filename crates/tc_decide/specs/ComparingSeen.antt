@@ -1,5 +1,6 @@
 -- What contracts see of two schemas that are compared, and of what rows tell of them.
 use Rattle.std.specs.Prelude.{◌≡◌, ◌<◌, ◌≤◌, ℕ, Result, Ok, Err}
+use Rattle.tc_base.specs.declared.limits.TheConstants.{MOST_SHOWN_NODES}
 use Rattle.tc_base.specs.declared.Limit.{Limit}
 use Rattle.tc_decide.specs.Comparing.{inclusion, equality, AreWithinPairLimits, PassesPairLimit, forward, backward, IsShown, IsOfOne, AreKept, IsSo, IsLeastRefutation, PassesComparison, TellsRefusalOfPair, IsFirstRefusedOfPair}
 use Rattle.tc_decide.specs.Texts.{Spells}
@@ -8,7 +9,7 @@ use Rattle.tc_decide.specs.declared.failure.Failure.{Failure}
 use Rattle.tc_decide.specs.declared.failure.Failure.TheVariants.{Refused, Passes, NoMemory}
 use Rattle.tc_decide.specs.declared.failure.Kind.TheVariants.{Texts, Rows}
 use Rattle.tc_decide.specs.declared.failure.RowCount.TheVariants.{Trees as TreeRows, Hedges as HedgeRows}
-use Rattle.tc_decide.specs.declared.limits.TheConstants.{MOST_ROWS, MOST_SHOWN_NODES}
+use Rattle.tc_decide.specs.declared.limits.TheConstants.{MOST_ROWS}
 use Rattle.tc_decide.specs.declared.schemas.SchemaText.{SchemaText}
 use Rattle.tc_decide.specs.declared.verdict.Equality.{Equality}
 use Rattle.tc_decide.specs.declared.verdict.Equality.TheVariants.{Same, FirstOnly, SecondOnly}

@@ -4,7 +4,7 @@ use Rattle.std.specs.Prelude.{◌≡◌, ◌↔◌, ◌++◌, ◌<◌, ◌≤◌
 use Rattle.std.specs.Borrow.{Bor}
 use Rattle.tc_base.specs.declared.Limit.{Limit}
 use Rattle.tc_base.specs.declared.Limit.TheVariants.{Calls, Entries}
-use Rattle.tc_base.specs.declared.limits.TheConstants.{MOST_INPUT_STATES, MOST_OUTPUT_STATES, DEEPEST_CALLS, MOST_ENTRIES}
+use Rattle.tc_base.specs.declared.limits.TheConstants.{DEEPEST_CALLS, MOST_ENTRIES, MOST_INPUT_STATES, MOST_OUTPUT_STATES, MOST_SHOWN_NODES}
 use Rattle.tc_dead.specs.Instantiated.{IsInstantiated, IsDead}
 use Rattle.tc_dead.specs.Marked.{marked_at, plain_schema}
 use Rattle.tc_dead.specs.Spots.{Spot, spots_of}
@@ -20,7 +20,7 @@ use Rattle.tc_decide.specs.declared.failure.Kind.{Kind}
 use Rattle.tc_decide.specs.declared.failure.Kind.TheVariants.{Texts, Rows, Nodes, Certificate, Work, Open, Pieces}
 use Rattle.tc_decide.specs.declared.failure.Which.{Which}
 use Rattle.tc_decide.specs.declared.failure.Which.TheVariants as which
-use Rattle.tc_decide.specs.declared.limits.TheConstants.{MOST_ROWS, MOST_SHOWN_NODES}
+use Rattle.tc_decide.specs.declared.limits.TheConstants.{MOST_ROWS}
 use Rattle.tc_decide.specs.declared.schemas.SchemaText.{SchemaText}
 use Rattle.tc_decide.specs.declared.spots.SpotTold.{SpotTold}
 use Rattle.tc_decide.specs.declared.spots.Told.{Told}

@@ -1,5 +1,6 @@
 -- What is decided of the texts of two schemas and a stylesheet.
 use Rattle.std.specs.Prelude.{◌≡◌, ◌⊎◌, ◌↔◌, ℕ, List, Result, Ok, Err}
+use Rattle.tc_base.specs.declared.limits.TheConstants.{MOST_SHOWN_NODES}
 use Rattle.tc_decide.specs.Checking.{most_of, IsWithinTripleLimits, PassesTripleLimit, HasManyRows, HasFewRows, AreRowCounts, IsLeastCounter, HasFewestNodes, HasSmallCounter, HasLargeCounters, IsLargeRun}
 use Rattle.tc_decide.specs.RowCounts.{row_count}
 use Rattle.tc_decide.specs.Texts.{IsSpelled, IsRefused}
@@ -23,7 +24,6 @@ use Rattle.tc_model.specs.Views.{before, trees, place}
 use Rattle.tc_read.specs.Refusals.{IsRefusedSheet}
 use Rattle.tc_read.specs.Sheets.{IsSheetOf}
 use Rattle.tc_read.specs.declared.faults.Reason.{Reason}
-use Rattle.tc_decide.specs.declared.limits.TheConstants.{MOST_SHOWN_NODES}
 use Rattle.tc_run.specs.Limits.{KeepsLimits}
 
 -- where it is yes, this holds

@@ -21,3 +21,4 @@ pub mod Pieces
 pub mod PiecesSeen
 pub mod DeadSpots
 pub mod DeadSpotsSeen
+pub mod SchemaTextLaws

@@ -1,6 +1,7 @@
 -- Whether a document that comes in pieces is valid for a schema, by their texts. The limits of the schema come first: nothing is said of the document before
 -- they are kept. Into which pieces it is cut makes no difference, but that the place of a malformed document is left open.
 use Rattle.std.specs.Prelude.{◌≡◌, ◌↔◌, ℕ, List, Ok, Err}
+use Rattle.tc_base.specs.declared.limits.TheConstants.{LONGEST_TAG, MOST_NAMES}
 use Rattle.tc_decide.specs.Limits.{IsValidityWithin}
 use Rattle.tc_decide.specs.Texts.{Spells, IsSpelled, IsRefused}
 use Rattle.tc_decide.specs.Validating.{PassesValidity, Judgement, IsToldValid, IsToldInvalid}
@@ -11,7 +12,6 @@ use Rattle.tc_decide.specs.declared.failure.Kind.TheVariants.{Texts, Pieces}
 use Rattle.tc_decide.specs.declared.failure.PieceMeasure.TheVariants.{Tag, Names}
 use Rattle.tc_decide.specs.declared.failure.Which.{Which}
 use Rattle.tc_decide.specs.declared.failure.Which.TheVariants as which
-use Rattle.tc_decide.specs.declared.limits.TheConstants.{LONGEST_TAG, MOST_NAMES}
 use Rattle.tc_decide.specs.declared.schemas.SchemaText.{SchemaText}
 use Rattle.tc_model.specs.Grammars.{Grammar}
 use Rattle.tc_model.specs.RawTrees.{RawTrees}

@@ -1,5 +1,6 @@
 -- What contracts see of a document that comes in pieces.
 use Rattle.std.specs.Prelude.{◌≡◌, ◌↔◌, IsTrue, ℕ, List, Ok, Err}
+use Rattle.tc_base.specs.declared.limits.TheConstants.{LONGEST_TAG, MOST_NAMES}
 use Rattle.tc_decide.specs.Limits.{IsValidityWithin}
 use Rattle.tc_decide.specs.Pieces.{PassesInPieces, IsRefusedInPieces, TellsRefusalInPieces}
 use Rattle.tc_decide.specs.Texts.{Spells}
@@ -9,7 +10,6 @@ use Rattle.tc_decide.specs.declared.failure.Failure.TheVariants.{Refused, Passes
 use Rattle.tc_decide.specs.declared.failure.Kind.TheVariants.{Pieces}
 use Rattle.tc_decide.specs.declared.failure.PieceMeasure.TheVariants.{Tag, Names}
 use Rattle.tc_decide.specs.declared.failure.Which.TheVariants as which
-use Rattle.tc_decide.specs.declared.limits.TheConstants.{LONGEST_TAG, MOST_NAMES}
 use Rattle.tc_decide.specs.declared.schemas.SchemaText.{SchemaText}
 use Rattle.tc_model.specs.Grammars.{Grammar}
 use Rattle.tc_model.specs.RawTrees.{RawTrees}

@@ -1,5 +1,6 @@
 -- What contracts see of texts that are read, of the machine of two schemas and a stylesheet, and of why there is none.
 use Rattle.std.specs.Prelude.{◌≡◌, ℕ, List, Result, Ok, Err}
+use Rattle.tc_base.specs.declared.limits.TheConstants.{MOST_OUTPUTS}
 use Rattle.tc_base.specs.declared.Limit.{Limit}
 use Rattle.tc_beh.specs.declared.machine.Machine.{Machine}
 use Rattle.tc_close.specs.declared.decision.CloseFault.{CloseFault}
@@ -17,7 +18,7 @@ use Rattle.tc_decide.specs.declared.failure.Kind.TheVariants.{Texts, Rows, Certi
 use Rattle.tc_decide.specs.declared.failure.RowCount.TheVariants.{Trees, Hedges, Outputs}
 use Rattle.tc_decide.specs.declared.failure.Which.{Which}
 use Rattle.tc_decide.specs.declared.failure.Which.TheVariants as which
-use Rattle.tc_decide.specs.declared.limits.TheConstants.{MOST_OUTPUTS, LONGEST_CERTIFICATE}
+use Rattle.tc_decide.specs.declared.limits.TheConstants.{LONGEST_CERTIFICATE}
 use Rattle.tc_decide.specs.declared.machine.LimitFault.{LimitFault}
 use Rattle.tc_decide.specs.declared.machine.LimitFault.TheVariants as limit
 use Rattle.tc_decide.specs.declared.schemas.SchemaText.{SchemaText}

@@ -1,13 +1,13 @@
 // Whether a stylesheet is safe between two schemas, by their texts, with a certificate where it is.
 ghost use Rattle.std.specs.Prelude.{◌≤◌, OnOk, length};
 ghost use Rattle.tc_base.specs.Reading.{longest_text};
+ghost use Rattle.tc_base.specs.declared.limits.TheConstants.{GREATEST_LIMIT};
 ghost use Rattle.tc_beh.specs.Machines.{IsMachine, IsMachineOf};
 ghost use Rattle.tc_decide.specs.Certificates.{DecidesProof, IfRefuted, IsCountedProof, OnCertified};
 ghost use Rattle.tc_decide.specs.Checking.{IsWithinTripleLimits};
 ghost use Rattle.tc_decide.specs.Deciding.{IsShownBy, TellsRefusal};
 ghost use Rattle.tc_decide.specs.Texts.{IsShort, Means, Spells};
 ghost use Rattle.tc_decide.specs.TextsSeen.{IsFoundOfTexts, IsProved};
-ghost use Rattle.tc_decide.specs.declared.limits.TheConstants.{GREATEST_LIMIT};
 ghost use Rattle.tc_model.specs.Grammars.{Grammar};
 ghost use Rattle.tc_model.specs.Safety.{IsSafe};
 ghost use Rattle.tc_model.specs.Sheets.{Sheet};
@@ -16,12 +16,13 @@ ghost use Rattle.tc_rows.specs.Triples as t;
 
 use crate::checking::{output_of, rows_failure};
 use crate::failure::{Failure, Kind};
-use crate::limits::{LONGEST_CERTIFICATE, MOST_SHOWN_NODES};
+use crate::limits::LONGEST_CERTIFICATE;
 use crate::schemas::SchemaText;
 use crate::texts::machine_of_texts;
 use crate::verdict::Proof;
 use bumpalo::Bump;
 use std::alloc::Global;
+use tc_base::limits::MOST_SHOWN_NODES;
 use tc_beh::Machine;
 use tc_cert::write_cert;
 use tc_close::Proof as Proved;
@@ -49,7 +50,7 @@ pub fn prove<'b>(
     ensures certified_safe { (i o : Grammar) (s : Sheet) → Means input.entry i
         → Means output.entry o → MeansSheet sheet.now s → OnCertified result (IsSafe i o s) }
 
-    // None: the document that is shown is a counterexample, as of a check.
+    // None, of such texts too: the document that is shown is a counterexample, as of a check.
     ensures shown { (i o : Grammar) (s : Sheet) → Means input.entry i → Means output.entry o
         → MeansSheet sheet.now s → IfRefuted result (IsShownBy i o s) }
 

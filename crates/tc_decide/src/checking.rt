@@ -1,12 +1,12 @@
 // Whether a stylesheet is safe between two schemas, by their texts.
 ghost use Rattle.std.specs.Prelude.{◌≡◌, ◌≤◌, IfOk, OnOk, length};
 ghost use Rattle.tc_base.specs.Reading.{longest_text};
+ghost use Rattle.tc_base.specs.declared.limits.TheConstants.{GREATEST_LIMIT};
 ghost use Rattle.tc_beh.specs.Machines.{IsMachine, IsMachineOf};
 ghost use Rattle.tc_decide.specs.Checking.{IsWithinTripleLimits};
 ghost use Rattle.tc_decide.specs.Deciding.{DecidesSafety, IfUnsafe, IsCounted, IsOutputOf, IsShownBy, OnSafe, TellsRefusal};
 ghost use Rattle.tc_decide.specs.Texts.{IsShort, Means, Spells};
 ghost use Rattle.tc_decide.specs.TextsSeen.{IsFound, IsFoundOfTexts, of_close};
-ghost use Rattle.tc_decide.specs.declared.limits.TheConstants.{GREATEST_LIMIT};
 ghost use Rattle.tc_model.specs.Grammars.{Grammar};
 ghost use Rattle.tc_model.specs.Safety.{IsSafe};
 ghost use Rattle.tc_model.specs.Sheets.{Sheet};
@@ -16,13 +16,13 @@ ghost use Rattle.tc_read.specs.Sheets.{IsSheetOf, MeansSheet};
 ghost use Rattle.tc_rows.specs.Triples as t;
 
 use crate::failure::{Failure, Kind, RowCount};
-use crate::limits::{MOST_OUTPUTS, MOST_SHOWN_NODES};
 use crate::schemas::SchemaText;
 use crate::texts::machine_of_texts;
 use crate::verdict::{Output, Verdict};
 use bumpalo::Bump;
 use std::alloc::Global;
 use tc_base::NoMemory;
+use tc_base::limits::{MOST_OUTPUTS, MOST_SHOWN_NODES};
 use tc_beh::Machine;
 use tc_close::{CloseFault, Decision};
 use tc_model::Node;
@@ -52,13 +52,13 @@ pub fn check<'b>(
     ensures safe { (i o : Grammar) (s : Sheet) → Means input.entry i → Means output.entry o
         → MeansSheet sheet.now s → OnSafe result (IsSafe i o s) }
 
-    // No: the document that is shown is valid for the input, and its result, which is shown too unless it is too large, isn't valid for the
-    // output.
+    // Of such texts too. No: the document that is shown is valid for the input, and its result, which is shown too unless it is too large, isn't
+    // valid for the output.
     ensures shown { (i o : Grammar) (s : Sheet) → Means input.entry i → Means output.entry o
         → MeansSheet sheet.now s → IfUnsafe result (IsShownBy i o s) }
 
-    // The headline: yes exactly where the stylesheet is safe, no exactly where some counterexample has few enough nodes to be shown, with one
-    // of the fewest and its result; and else a failure.
+    // The headline, of such texts: yes exactly where the stylesheet is safe, no exactly where some counterexample has few enough nodes to be
+    // shown, with one of the fewest and its result; and else a failure.
     ensures headline { (i o : Grammar) (s : Sheet) → Means input.entry i → Means output.entry o
         → MeansSheet sheet.now s → OnOk result (DecidesSafety i o s result) }
 

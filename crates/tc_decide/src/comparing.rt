@@ -7,7 +7,7 @@ ghost use Rattle.tc_decide.specs.ComparingSeen.{FindsEquality, FindsInclusion, F
 ghost use Rattle.tc_decide.specs.Limits.{AreFew, IsWithinLimits};
 ghost use Rattle.tc_decide.specs.MachinesSeen.{IsCauseBy, IsLawful, IsReadOf};
 ghost use Rattle.tc_decide.specs.Texts.{IsShort, Means, Spells};
-ghost use Rattle.tc_decide.specs.declared.limits.TheConstants.{MOST_ROWS, MOST_SHOWN_NODES};
+ghost use Rattle.tc_decide.specs.declared.limits.TheConstants.{MOST_ROWS};
 ghost use Rattle.tc_incl.specs.Answers.{IsAnswer, IsCause, IsIncludedWith, IsLeastPlain};
 ghost use Rattle.tc_incl.specs.Schemas.{IsDifference, IsIncluded};
 ghost use Rattle.tc_model.specs.Grammars as g;
@@ -17,7 +17,7 @@ ghost use Rattle.tc_model.specs.Views as see;
 
 use crate::empty::no_rules;
 use crate::failure::{Failure, Kind, Which};
-use crate::limits::{MOST_ROWS, MOST_SHOWN_NODES};
+use crate::limits::MOST_ROWS;
 use crate::machine::{LimitFault, grammar_within_limits, input_automaton};
 use crate::schemas::SchemaText;
 use crate::texts::schema_of;
@@ -27,7 +27,7 @@ use std::alloc::Global;
 use tc_alpha::{AlphaFault, Alphabet};
 use tc_auto::Auto;
 use tc_base::Limit;
-use tc_base::limits::MOST_SYMBOLS;
+use tc_base::limits::{MOST_SHOWN_NODES, MOST_SYMBOLS};
 use tc_incl::{Cover, InclFault, included};
 use tc_model::Node;
 use tc_read::Schema;

@@ -2,9 +2,9 @@
 ghost use Rattle.std.specs.Prelude.{◌≡◌};
 ghost use Rattle.tc_decide.specs.TextsSeen.{of_text};
 
-use crate::limits::{LONGEST_CERTIFICATE, LONGEST_TAG, MOST_NAMES, MOST_ROWS};
+use crate::limits::{LONGEST_CERTIFICATE, MOST_ROWS};
 use crate::machine::LimitFault;
-use tc_base::limits::{MOST_OPEN, MOST_WORK};
+use tc_base::limits::{LONGEST_TAG, MOST_NAMES, MOST_OPEN, MOST_WORK};
 use tc_base::{Limit, NoMemory, Place};
 use tc_cert::CertWriteFault;
 use tc_incl::InclFault;
@@ -147,10 +147,10 @@ impl From<StreamFault> for Failure {
                 Failure::Refused(Which::Document, Reason::TooDeep, place)
             }
             StreamFault::TagTooLong => {
-                Failure::Passes(Kind::Pieces(PieceMeasure::Tag), LONGEST_TAG)
+                Failure::Passes(Kind::Pieces(PieceMeasure::Tag), LONGEST_TAG as u32)
             }
             StreamFault::NamesTooLong => {
-                Failure::Passes(Kind::Pieces(PieceMeasure::Names), MOST_NAMES)
+                Failure::Passes(Kind::Pieces(PieceMeasure::Names), MOST_NAMES as u32)
             }
         }
     }

@@ -9,6 +9,7 @@ mod comparing;
 mod copies;
 mod empty;
 mod failure;
+pub mod laws;
 pub mod limits;
 mod machine;
 mod pieces;

@@ -1,7 +1,7 @@
 -- A sink in memory: what clients see of it, and what a write does.
-use Rattle.std.specs.Prelude.{◌≡◌, ◌+◌, ◌-◌, ◌≤◌, ◌⊎◌, ℕ, List, [], ◌++◌, length, take, Contains, Result, Ok, Err}
+use Rattle.std.specs.Prelude.{◌≡◌, ◌+◌, ◌-◌, ◌≤◌, ◌⊎◌, ℕ, List, [], ◌++◌, length, take, Contains, Ok, Err}
 use Rattle.tc_io.specs.Faults.{raised}
-use Rattle.tc_io.specs.declared.WriteFault.{WriteFault}
+use Rattle.tc_io.specs.Sink.{Wrote}
 
 -- what clients see of a sink in memory
 pub record SinkState : Type 0 where
@@ -32,8 +32,8 @@ after_fault sink piece = record sink { bytes = sink.bytes ++ piece; calls = rais
 
 -- why a write is answered so, and what it leaves: a write that is to fail appends nothing, and one that doesn't fit
 -- appends as much as fits
-abbrev pub Writes : SinkState → SinkState → List ℕ → Result (Unit {0}) WriteFault → Type 0
-Writes old new piece (Ok _) = ¬ NextFails old × Fits old piece × (new ≡ after_write old piece)
-Writes old new piece (Err _) =
+abbrev pub Writes : SinkState → List ℕ → Wrote → SinkState → Type 0
+Writes old piece (Ok _) new = ¬ NextFails old × Fits old piece × (new ≡ after_write old piece)
+Writes old piece (Err _) new =
     (NextFails old × (new ≡ after_fault old []))
     ⊎ (¬ NextFails old × ¬ Fits old piece × (new ≡ after_fault old (take (old.room - length old.bytes) piece)))

@@ -13,7 +13,7 @@ mod tests;
 ghost use Rattle.std.specs.Prelude.{◌≡◌, ◌≤◌, ◌⊎◌, ℕ, List, Option, length, IfOk, OnOk, OnErr, IsErrOf};
 ghost use Rattle.tc_io.specs.Faults.{Rose};
 ghost use Rattle.tc_io.specs.Store.{Files, Came, came, Answers, IsTooLong, longest_file};
-ghost use Rattle.tc_io.specs.Sink.{Appended, WroteFront};
+ghost use Rattle.tc_io.specs.Sink.{Appended, WroteFront, Wrote};
 
 pub use memory::{MemSink, MemStore};
 pub use real::{RealSink, RealStore};
@@ -84,8 +84,13 @@ pub trait Sink {
     /// How often a write failed.
     ghost faults: { Self → ℕ };
 
+    /// What a write does: the sink before, the piece, what came of it, and the sink after. Who writes to a sink that is any sink
+    /// learns it of no writes but those that were made.
+    ghost write_gives: { Self → List ℕ → Wrote → Self → Type 0 };
+
     /// Appends the piece. It takes no memory.
     fn write(&mut self, piece: &[u8]) -> Result<(), WriteFault>
+        ensures gives { write_gives self.old piece.now result self.new }
         ensures count { faults self.old ≤ faults self.new }
         ensures ok { OnOk result (Appended (written self.old) (written self.new) piece.now) }
         ensures fault { OnErr result (WroteFront (written self.old) (written self.new) piece.now) }

@@ -202,17 +202,17 @@ impl Sink for MemSink {
 
     ghost faults = { λ sink. sink.faults };
 
+    ghost write_gives = { Writes };
+
     /// Fails at the writes given to `fail_at`, of which nothing is written, and where the piece doesn't fit into the
     /// room that is left, of which as much is written as fits.
     fn write(&mut self, piece: &[u8]) -> Result<(), WriteFault>
+        ensures gives { Writes self.old piece.now result self.new }
         ensures count { self.old.faults ≤ self.new.faults }
         ensures ok { OnOk result (Appended (Some self.old.bytes) (Some self.new.bytes) piece.now) }
         ensures fault { OnErr result
             (WroteFront (Some self.old.bytes) (Some self.new.bytes) piece.now) }
         ensures rose { OnErr result (Rose self.old.faults self.new.faults) }
-
-        // More than a sink promises: which writes fail, and what each leaves.
-        ensures writes { Writes self.old self.new piece.now result }
     {
         if self.calls.next_fails() {
             self.faults = self.faults.saturating_add(1);

@@ -1,10 +1,10 @@
 // The files of the system and a writer, of which no content is told: the edge that is trusted.
 ghost use Rattle.std.specs.Prelude.{◌≡◌, ◌≤◌, ◌<◌, ◌⊎◌, ℕ, Some, None, length, IfOk, IfSome, OnOk, OnErr, IsErrOf};
 ghost use Rattle.std.specs.Io.KnownBytes.{Appends};
-ghost use Rattle.tc_io.specs.Faults.{Rose, raised};
+ghost use Rattle.tc_io.specs.Faults.{Rose};
 ghost use Rattle.tc_io.specs.Store.{Files, came, Answers, IsTooLong, longest_file};
 ghost use Rattle.tc_io.specs.RealStore.{Counts};
-ghost use Rattle.tc_io.specs.RealSink.{WriterState, AppendsFront};
+ghost use Rattle.tc_io.specs.RealSink.{WriterState, AppendsFront, Reaches};
 
 use crate::{LONGEST_FILE, Sink, Store, StoreFault, WriteFault};
 use std::alloc::Global;
@@ -133,18 +133,13 @@ impl<W: Write> Sink for RealSink<W> {
 
     ghost faults = { λ sink. sink.faults };
 
+    ghost write_gives = { Reaches W.contents };
+
     /// Every fault raises the count by one.
     fn write(&mut self, piece: &[u8]) -> Result<(), WriteFault>
+        ensures gives { Reaches W.contents self.old piece.now result self.new }
         ensures count { self.old.faults ≤ self.new.faults }
         ensures rose { OnErr result (Rose self.old.faults self.new.faults) }
-
-        // More than a sink promises: the count itself, and what reaches a writer that tells its bytes.
-        ensures same { OnOk result (self.new.faults ≡ self.old.faults) }
-        ensures err { OnErr result (self.new.faults ≡ raised self.old.faults) }
-        ensures reaches { OnOk result
-            (Appends (W.contents self.old.out) (W.contents self.new.out) piece.now) }
-        ensures front { OnErr result
-            (AppendsFront (W.contents self.old.out) (W.contents self.new.out) piece.now) }
     {
         let written = write_all(&mut self.out, piece);
         if written.is_err() {

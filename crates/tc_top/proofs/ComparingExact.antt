@@ -1,11 +1,12 @@
 -- What is found of two schemas decides all that is asked of them.
 use Rattle.std.proofs.Common.{◌≡◌, ◌≤◌, ◌<◌, inl, inr, sym, ◌∙◌, ℕ, List, Option, codes, arith}
+use Rattle.tc_base.specs.declared.limits.TheConstants.{MOST_SHOWN_NODES}
 use Rattle.tc_answer.specs.Answers.{Answer, status_of, text_of, over_limit}
 use Rattle.tc_decide.specs.RowCounts.{RowCount}
 use Rattle.tc_answer.specs.Lines.{limit_line, count_word}
 use Rattle.tc_answer.specs.declared.status.Status.{Status}
 use Rattle.tc_answer.specs.declared.status.Status.TheVariants.{Yes, No, Limit}
-use Rattle.tc_decide.specs.declared.limits.TheConstants.{MOST_ROWS, MOST_SHOWN_NODES}
+use Rattle.tc_decide.specs.declared.limits.TheConstants.{MOST_ROWS}
 use Rattle.tc_base.specs.declared.Limit as kinds
 use Rattle.tc_incl.specs.Schemas.{IsDifference}
 use Rattle.tc_io.specs.Sink.{Appended}

@@ -1,8 +1,7 @@
 -- What is decided of texts is what commands answer on them.
 use Rattle.std.proofs.Common.{◌≡◌, ◌≤◌, ◌⊎◌, inl, inr, refl, sym, ap, subst, Bool, true, false, ℕ, List, length, Result, Ok, Err}
 use Rattle.std.proofs.lemmas.Bool.{true≢false}
-use Rattle.tc_base.specs.declared.Limit.{Limit}
-use Rattle.tc_answer.specs.Answers.{Answer, certificate, certificate_limit, over_limit, rejected, refused, rows_limit, has_result}
+use Rattle.tc_answer.specs.Answers.{Answer, certificate, certificate_limit, rejected, refused, rows_limit, has_result}
 use Rattle.tc_answer.specs.AnswersSeen.{Says}
 use Rattle.tc_answer.specs.declared.answer.Answer as made
 use Rattle.tc_answer.specs.declared.status.Status.TheVariants.{Yes, No}
@@ -19,7 +18,7 @@ use Rattle.tc_decide.specs.Rejections.{Rejection, rejection, IsRejectionOf, of_f
 use Rattle.tc_decide.specs.RowCounts.{RowCount, row_count}
 use Rattle.tc_decide.specs.Running.{AreRunAccepted, TellsRefusalOfRun, PassesRun, TellsRunLimit}
 use Rattle.tc_decide.specs.Texts.{Spells}
-use Rattle.tc_decide.specs.Validating.{PassesValidity, passes_schema, passes_symbols, AreRead, TellsRefusalOfDocument, DecidesValidity, TellsValidityLimit}
+use Rattle.tc_decide.specs.Validating.{AreRead, TellsRefusalOfDocument, DecidesValidity, TellsValidityLimit}
 use Rattle.tc_decide.specs.Verified.{OnAccepted, DecidesCertificate, TellsTextLimit, DecidesUpgrade, TellsUpgradeLimit}
 use Rattle.tc_decide.specs.declared.failure.Failure.{Failure}
 use Rattle.tc_decide.specs.declared.failure.Failure.TheVariants.{Refused, Passes, NoMemory}
@@ -54,7 +53,7 @@ use Rattle.tc_model.specs.declared.lists.CertData.{CertData}
 use Rattle.tc_print.specs.ReadBack.{IsReadAs}
 use Rattle.tc_read.specs.Sheets.{IsSheetOf}
 use Rattle.tc_read.specs.declared.faults.Reason.{Reason}
-use Rattle.tc_top.specs.Causes.{Finds, passes_before_rows, passes_rows, finds_safe, finds_unsafe, finds_large, finds_none_small, OfTexts, refuses_input, refuses_output, refuses_sheet, all_three, Runs, sheet_passes, too_much_work, too_open, gives_result, RunsTexts, sheet_refused, source_refused, sheet_and_source, Decides, passes, too_many_symbols, decides_valid, decides_invalid, Validates, schema_refused, document_refused, both_read}
+use Rattle.tc_top.specs.Causes.{Finds, passes_before_rows, passes_rows, finds_safe, finds_unsafe, finds_large, finds_none_small, OfTexts, refuses_input, refuses_output, refuses_sheet, all_three, Runs, sheet_passes, too_much_work, too_open, gives_result, RunsTexts, sheet_refused, source_refused, sheet_and_source, Decides, passes, decides_valid, decides_invalid, Validates, schema_refused, document_refused, both_read}
 use Rattle.tc_top.specs.Certifying.{Certifies, as_checked, certifies, overlong, Accepts, stops_before_rows, accepts, no_text, no_certificate, Upgrades, upgrades, too_long, no_form}
 use Rattle.tc_top.specs.Comparing.{FindsInclusion, inclusion_passes, inclusion_covers, finds_included, finds_not_included, finds_none_shown, FindsEquality, equality_passes, equality_covers_forward, equality_covers_backward, finds_equal, finds_first_only, finds_second_only, finds_no_one_shown, FindsBoth, Compares, first_refused, second_refused, both_schemas}
 use Rattle.tc_top.specs.InPieces.{DecidesInPieces, schema_limited, text_refused, tag_passed, names_passed, document_valid, document_invalid, ValidatesInPieces, schema_is_refused, schema_is_read}
@@ -266,10 +265,6 @@ valid_is : (x : Grammar) (d : Trees) (valid : Bool) → DecidesValidity x d (Ok 
 valid_is x d true h = let (w, v) = h.yes.0 refl in decides_valid w v
 valid_is x d false h = let (w, v) = h.no.0 (λ e. true≢false (sym e)) in decides_invalid w v
 
-limit_is : {x : Grammar} {d : Trees} {kind : Limit} {number : ℕ} → PassesValidity x kind number → Decides x d (over_limit kind number)
-limit_is (passes_schema p) = passes p
-limit_is (passes_symbols within many) = too_many_symbols within many
-
 module _ (n m b c : List ℕ) (schema : Text) (schema_is : IsTextOf n b schema) where
   pub valid_gives : (valid : Bool) → AreRead schema c → ((x : Grammar) (d : Trees) → Spells schema x → IsReadAs c d → DecidesValidity x d (Ok valid)) → Validates n m b c (validity_answer valid)
   valid_gives valid ((x, p), (d, q)) f = both_read (spelled_as_text n b schema schema_is x p) q (valid_is x d valid (f x d p q))
@@ -280,7 +275,7 @@ module _ (n m b c : List ℕ) (schema : Text) (schema_is : IsTextOf n b schema) 
   valid_fails (Refused which.Output reason at) said r limits says = absurd r
   valid_fails (Refused which.Sheet reason at) said r limits says = absurd r
   valid_fails (Refused which.Document reason at) said ((x, p), r) limits says = (_, says, document_refused (spelled_as_text n b schema schema_is x p) r)
-  valid_fails (Passes (Texts kind) number) said ((x, p), (d, q)) limits says = (_, says, both_read (spelled_as_text n b schema schema_is x p) q (limit_is (limits x p)))
+  valid_fails (Passes (Texts kind) number) said ((x, p), (d, q)) limits says = (_, says, both_read (spelled_as_text n b schema schema_is x p) q (passes (limits x p)))
   valid_fails (Passes (Rows count) number) said ((x, p), (d, q)) limits says = absurd (limits x p)
   valid_fails (Passes Nodes number) said ((x, p), (d, q)) limits says = absurd (limits x p)
   valid_fails (Passes Certificate number) said ((x, p), (d, q)) limits says = absurd (limits x p)

@@ -1,7 +1,7 @@
 -- How many rows there may be.
 use Rattle.std.proofs.Common.{◌≤◌, ℕ, List, Option, Some, None, arith}
+use Rattle.tc_base.specs.declared.limits.TheConstants.{GREATEST_LIMIT}
 use Rattle.tc_answer.specs.Words.{Words, checks, proves, check, prove, Limits}
-use Rattle.tc_decide.specs.declared.limits.TheConstants.{GREATEST_LIMIT}
 use Rattle.tc_top.specs.Checking.{most_rows}
 
 limit_few : (limit : Option ℕ) (words operands : List (List ℕ)) → Limits words limit operands → most_rows limit ≤ GREATEST_LIMIT

@@ -2,7 +2,7 @@
 use Rattle.std.proofs.Common.{◌≡◌, ◌≤◌, ◌⊎◌, ◌∷◌, [], ◌∙◌, inl, inr, refl, sym, subst, ap, ℕ, List, Option, Some, Ok, arith}
 use Rattle.tc_io.specs.Store.{Files, Read}
 use Rattle.tc_io.specs.Reads.{AreTrue}
-use Rattle.tc_io.specs.Sink.{Appended}
+use Rattle.tc_io.specs.Sink.{Appended, Write}
 use Rattle.tc_model.specs.Trees.{Trees, none, text, element, node_count}
 use Rattle.tc_model.specs.Validity.{IsValidOutput}
 use Rattle.tc_model.specs.Grammars.{Grammar}
@@ -75,9 +75,9 @@ pub at_words : {words other : List (List ℕ)} {happened : List Read → Type 0}
 at_words {words} {other} {happened} {said} same right = subst (λ w. IsRightFor w happened said) same right
 
 -- a call that ends so for the same words
-pub ends_at : {words other : List (List ℕ)} {happened : List Read → Type 0} {faulted : Type 0} {old new : Option (List ℕ)} {status : Status} → words ≡ other → Ends words happened faulted old new status
-    → Ends other happened faulted old new status
-ends_at {words} {other} {happened} {faulted} {old} {new} {status} same ends = subst (λ w. Ends w happened faulted old new status) same ends
+pub ends_at : {words other : List (List ℕ)} {happened : List Read → Type 0} {wrote : List Write → Type 0} {faulted : Type 0} {old new : Option (List ℕ)} {status : Status} → words ≡ other
+    → Ends words happened wrote faulted old new status → Ends other happened wrote faulted old new status
+ends_at {words} {other} {happened} {wrote} {faulted} {old} {new} {status} same ends = subst (λ w. Ends w happened wrote faulted old new status) same ends
 
 -- where the store tells
 pub at_told : {told other : Option Files} (rose : Type 0) (reads : List Read) → told ≡ other → AreTrue told rose reads → AreTrue other rose reads
@@ -90,7 +90,7 @@ deep_within (text s rest) = omega (arith, deep_within rest)
 deep_within (element n kids rest) = grind (arith, deep_within kids, deep_within rest)
 
 reads_back : {i o : Grammar} {s : Sheet} {document : Trees} → IsLeastCounter i o s document → IsReadAs (printed document) document
-reads_back {document = document} least = read_back document (record { document = least.counter.1.0.0; shallow = omega (arith, deep_within document, least.few) })
+reads_back {document = document} least = read_back document (record { document = least.counter.1.0.0; shallow = omega (arith, deep_within document, least.fewest.few) })
 
 -- what a status isn't
 
@@ -137,7 +137,7 @@ module _ (most : ℕ) (i o : Grammar) (s : Sheet) (status : Status) (old new : O
   is_no : {document : Trees} → status ≡ No → IsWithinTripleLimits i o s → HasFewRows i o s most → IsLeastCounter i o s document → ShowsRun old new s document → Decides
   is_no {document} is w f l display = record {
     yes = (λ e. absurd (not_no e is), λ x. absurd (not_both i o s x.2 l.counter));
-    no = (λ _. (w, f, (document, l.counter, l.few)), λ _. is);
+    no = (λ _. (w, f, (document, l.counter, l.fewest.few)), λ _. is);
     limit = (λ e. absurd (no_limit is e), λ x. absurd (few_not_limited w f (λ y. near_far l y) x));
     one = inr (inl is);
     yes_text = λ e. absurd (not_no e is);

@@ -1,6 +1,5 @@
 -- What the texts of a schema and of a document in pieces decide is one.
 use Rattle.std.proofs.Common.{◌≡◌, ℕ, List, subst}
-use Rattle.tc_base.specs.declared.Limit.{Limit}
 use Rattle.tc_model.specs.Grammars.{Grammar}
 use Rattle.tc_model.specs.RawTrees.{RawTrees}
 use Rattle.tc_model.specs.Stripped.{stripped}
@@ -8,29 +7,18 @@ use Rattle.tc_model.specs.Validity.{IsValid}
 use Rattle.tc_model.proofs.XmlTextTrees.{one_raw_tree}
 use Rattle.tc_read.specs.declared.faults.Reason.{Reason}
 use Rattle.tc_stream.specs.Outcomes.{passed}
-use Rattle.tc_stream.specs.XmlTextMeasures.{Measure, tag, names, IsGood, PassesFirst, IsWithinMeasures}
+use Rattle.tc_stream.specs.XmlTextMeasures.{tag, names, IsGood, PassesFirst, IsWithinMeasures}
 use Rattle.tc_stream.proofs.FaultsOnce.{comes_once}
-use Rattle.tc_answer.specs.Answers.{Answer, over_limit, refused}
-use Rattle.tc_decide.specs.Validating.{PassesValidity, passes_schema, passes_symbols}
+use Rattle.tc_answer.specs.Answers.{Answer, refused}
 use Rattle.tc_decide.specs.Pieces.{IsRefusedInPieces}
 use Rattle.tc_top.specs.InPieces.{DecidesInPieces, schema_limited, text_refused, tag_passed, names_passed, document_valid, document_invalid, ValidatesInPieces, schema_is_refused, schema_is_read}
-use Rattle.tc_decide.specs.Limits.{IsValidityWithin}
 use Rattle.tc_top.specs.OneAnswer.{AreAlike, same_answer}
 use Rattle.tc_top.specs.SchemaTexts.{SchemaText}
 use Rattle.tc_top.proofs.OneRefusal.{document_refusals}
 use Rattle.tc_decide.proofs.InPieces.{no_tree, good_within, passes_within}
 use Rattle.tc_decide.proofs.Judged.{not_within}
-use Rattle.tc_decide.proofs.Passing.{over_schema as over}
-use Rattle.tc_top.proofs.OneValidity.{one_limit}
+use Rattle.tc_top.proofs.OneValidity.{one_validity_limit}
 use Rattle.tc_top.proofs.SchemaTextLaws.{no_schema, one_schema, text_refusals}
-
--- the first limit that a schema passes is one
-
-pub one_validity_limit : {g : Grammar} {kind other : Limit} {number count : ℕ} → PassesValidity g kind number → PassesValidity g other count → AreAlike (over_limit kind number) (over_limit other count)
-one_validity_limit (passes_schema p) (passes_schema q) = one_limit p q
-one_validity_limit (passes_schema p) (passes_symbols v q) = absurd (over p v)
-one_validity_limit (passes_symbols v p) (passes_schema q) = absurd (over q v)
-one_validity_limit (passes_symbols v p) (passes_symbols w q) = same_answer
 
 -- a text is good, or it is refused, or one measure passes in it
 

@@ -9,10 +9,12 @@ use Rattle.tc_model.specs.States.{Side}
 use Rattle.tc_read.specs.Schemas.{PassesSize, passes_pattern, passes_depth, passes_elements}
 use Rattle.tc_decide.specs.Limits.{PassesLimit, passes_size, passes_states, IsValidityWithin}
 use Rattle.tc_answer.specs.Answers.{Answer, over_limit, is_valid, is_invalid}
-use Rattle.tc_top.specs.Causes.{Decides, passes, too_many_symbols, decides_valid, decides_invalid, Validates, schema_refused, document_refused, both_read}
+use Rattle.tc_top.specs.Causes.{Decides, passes, decides_valid, decides_invalid, Validates, schema_refused, document_refused, both_read}
 use Rattle.tc_top.specs.OneAnswer.{AreAlike, same_answer}
 use Rattle.tc_top.specs.SchemaTexts.{SchemaText}
+use Rattle.tc_decide.specs.Validating.{PassesValidity, passes_schema, passes_symbols}
 use Rattle.tc_decide.proofs.Documents.{no_document, one_document}
+use Rattle.tc_decide.proofs.Judged.{not_within}
 use Rattle.tc_decide.proofs.Passing.{too_large, over_schema}
 use Rattle.tc_top.proofs.OneRefusal.{document_refusals}
 use Rattle.tc_top.proofs.SchemaTextLaws.{no_schema, one_schema, text_refusals}
@@ -36,21 +38,20 @@ one_limit (passes_size p) (passes_states c q) = absurd (too_large p c)
 one_limit (passes_states c p) (passes_size q) = absurd (too_large q c)
 one_limit (passes_states c p) (passes_states d q) = same_answer
 
+pub one_validity_limit : {g : Grammar} {kind other : Limit} {number count : ℕ} → PassesValidity g kind number → PassesValidity g other count → AreAlike (over_limit kind number) (over_limit other count)
+one_validity_limit (passes_schema p) (passes_schema q) = one_limit p q
+one_validity_limit (passes_schema p) (passes_symbols v q) = absurd (over_schema p v)
+one_validity_limit (passes_symbols v p) (passes_schema q) = absurd (over_schema q v)
+one_validity_limit (passes_symbols v p) (passes_symbols w q) = same_answer
+
 decides_one : {g : Grammar} {d : Trees} {one other : Answer} → Decides g d one → Decides g d other → AreAlike one other
-decides_one (passes p) (passes q) = one_limit p q
-decides_one (passes p) (too_many_symbols w q) = absurd (over_schema p w)
-decides_one (passes p) (decides_valid w v) = absurd (over_schema p w.schema)
-decides_one (passes p) (decides_invalid w v) = absurd (over_schema p w.schema)
-decides_one (too_many_symbols w q) (passes p) = absurd (over_schema p w)
-decides_one (too_many_symbols w q) (too_many_symbols x r) = same_answer
-decides_one (too_many_symbols w q) (decides_valid x v) = absurd (omega (arith, q, x.symbols))
-decides_one (too_many_symbols w q) (decides_invalid x v) = absurd (omega (arith, q, x.symbols))
-decides_one (decides_valid w v) (passes p) = absurd (over_schema p w.schema)
-decides_one (decides_valid w v) (too_many_symbols x q) = absurd (omega (arith, q, w.symbols))
+decides_one (passes p) (passes q) = one_validity_limit p q
+decides_one (passes p) (decides_valid w v) = absurd (not_within p w)
+decides_one (passes p) (decides_invalid w v) = absurd (not_within p w)
+decides_one (decides_valid w v) (passes p) = absurd (not_within p w)
 decides_one (decides_valid w v) (decides_valid x u) = same_answer
 decides_one (decides_valid w v) (decides_invalid x u) = absurd (u v)
-decides_one (decides_invalid w v) (passes p) = absurd (over_schema p w.schema)
-decides_one (decides_invalid w v) (too_many_symbols x q) = absurd (omega (arith, q, w.symbols))
+decides_one (decides_invalid w v) (passes p) = absurd (not_within p w)
 decides_one (decides_invalid w v) (decides_valid x u) = absurd (v u)
 decides_one (decides_invalid w v) (decides_invalid x u) = same_answer
 
@@ -75,8 +76,7 @@ pub data Settles (g : Grammar) (d : Trees) : Answer → Type 0 where
   settles_invalid : ¬ (IsValid g d) → Settles g d is_invalid
 
 settled : {g : Grammar} {d : Trees} {answer : Answer} → IsValidityWithin g → Decides g d answer → Settles g d answer
-settled w (passes p) = absurd (over_schema p w.schema)
-settled w (too_many_symbols x q) = absurd (omega (arith, q, w.symbols))
+settled w (passes p) = absurd (not_within p w)
 settled w (decides_valid x v) = settles_valid v
 settled w (decides_invalid x v) = settles_invalid v
 

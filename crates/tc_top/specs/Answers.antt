@@ -2,7 +2,7 @@
 use Rattle.std.specs.Prelude.{◌≡◌, ◌≤◌, ◌↔◌, ℕ, List, length, [], ◌∷◌, Option, Some}
 use Rattle.tc_io.specs.Store.{Files, Read, longest_file}
 use Rattle.tc_io.specs.Reads.{AreTrue}
-use Rattle.tc_io.specs.Sink.{Appended, WroteFront}
+use Rattle.tc_io.specs.Sink.{Appended, Write, WroteFront}
 use Rattle.tc_io.specs.declared.StoreFault.{StoreFault}
 use Rattle.tc_io.specs.declared.StoreFault.TheVariants.{TooLong}
 use Rattle.tc_model.specs.Trees.{Trees}
@@ -16,6 +16,7 @@ use Rattle.tc_answer.specs.Reading.{StopsAt, IsUnreadable, AreRead}
 use Rattle.tc_answer.specs.declared.status.Status.{Status}
 use Rattle.tc_answer.specs.declared.status.Status.TheVariants.{Yes, Limit, WriteFault, NoMemory}
 use Rattle.tc_answer.specs.Answers.{Answer, usage, cannot_read, file_limit, status_of, text_of}
+use Rattle.tc_answer.specs.Writing.{AreWritten, BreakOff, lines_of}
 use Rattle.tc_top.specs.Causes.{Checks, Validates, Runs, RunsTexts}
 use Rattle.tc_top.specs.Certifying.{Proves, Verifies, Upgrades}
 use Rattle.tc_top.specs.InPieces.{ValidatesInPieces}
@@ -64,14 +65,14 @@ pub data IsAnswer (words : List (List ℕ)) (reads : List Read) : Answer → Typ
 abbrev pub IsAnswerOn : List (List ℕ) → Files → Answer → Type 0
 IsAnswerOn words files answer = (reads : List Read) × AreTrue (Some files) ⊥ reads × IsAnswer words reads answer
 
--- How a call ends: with an answer that is right for what was read, and all of it written; with such an answer broken off where a write
--- failed; or, only for a command, for want of memory.
-pub data Ends (words : List (List ℕ)) (happened : List Read → Type 0) (faulted : Type 0) (old new : Option (List ℕ)) : Status → Type 0 where
-  answered : {reads : List Read} {answer : Answer} {status : Status} → happened reads → IsAnswer words reads answer → status ≡ status_of answer → Appended old new (text_of answer)
-      → Ends words happened faulted old new status
-  broken_off : {reads : List Read} {answer : Answer} {status : Status} → happened reads → IsAnswer words reads answer → status ≡ WriteFault → WroteFront old new (text_of answer) → faulted
-      → Ends words happened faulted old new status
-  out_of_memory : {command : Command} {status : Status} → Words words command → status ≡ NoMemory → Ends words happened faulted old new status
+-- How a call ends: with an answer that is right for what was read, of which each line was written by a write of its own, all in order; with such
+-- an answer broken off by the first write that failed; or, only for a command, for want of memory.
+pub data Ends (words : List (List ℕ)) (happened : List Read → Type 0) (wrote : List Write → Type 0) (faulted : Type 0) (old new : Option (List ℕ)) : Status → Type 0 where
+  answered : {reads : List Read} {answer : Answer} {writes : List Write} {status : Status} → happened reads → IsAnswer words reads answer → status ≡ status_of answer
+      → wrote writes → AreWritten (lines_of (text_of answer)) writes → Appended old new (text_of answer) → Ends words happened wrote faulted old new status
+  broken_off : {reads : List Read} {answer : Answer} {writes : List Write} {status : Status} → happened reads → IsAnswer words reads answer → status ≡ WriteFault
+      → wrote writes → BreakOff (lines_of (text_of answer)) writes → WroteFront old new (text_of answer) → faulted → Ends words happened wrote faulted old new status
+  out_of_memory : {command : Command} {status : Status} → Words words command → status ≡ NoMemory → Ends words happened wrote faulted old new status
 
 -- the answer is yes exactly within the limits of a run, and else a limit that is passed
 pub record KeepsToLimits (status : Status) (old new : Option (List ℕ)) (s : Sheet) (d : Trees) : Type 0 where

@@ -1,14 +1,10 @@
 -- What the texts of operands decide, by the command: each answer with its cause.
 use Rattle.std.specs.Prelude.{◌<◌, ℕ, List}
 use Rattle.tc_base.specs.declared.Limit as kinds
-use Rattle.tc_base.specs.declared.Limit.TheVariants.{Symbols}
-use Rattle.tc_base.specs.declared.limits.TheConstants.{MOST_INPUT_STATES, MOST_SYMBOLS}
 use Rattle.tc_model.specs.Trees.{Trees}
 use Rattle.tc_model.specs.Grammars.{Grammar}
 use Rattle.tc_model.specs.Sheets.{Sheet}
 use Rattle.tc_model.specs.Safety.{IsSafe, Transforms, IsResultOf}
-use Rattle.tc_model.specs.States as side
-use Rattle.tc_model.specs.Symbols.{symbol_count}
 use Rattle.tc_model.specs.Outcomes.{Outcome}
 use Rattle.tc_model.specs.Validity.{IsValid}
 use Rattle.tc_print.specs.ReadBack.{IsReadAs}
@@ -17,11 +13,11 @@ use Rattle.tc_read.specs.Sheets.{IsSheetOf}
 use Rattle.tc_run.specs.Limits.{KeepsLimits}
 use Rattle.tc_decide.specs.RowCounts.{RowCount}
 use Rattle.tc_decide.specs.Checking.{most_of, IsWithinTripleLimits, PassesTripleLimit, HasManyRows, HasFewRows, AreRowCounts, IsLeastCounter, HasLargeCounters, IsLargeRun}
-use Rattle.tc_answer.specs.Words.{check, run, valid}
 use Rattle.tc_read.specs.Refusals.{IsRefusedDocument, IsRefusedSheet}
 use Rattle.tc_read.specs.declared.faults.Reason.{Reason}
 use Rattle.tc_top.specs.SchemaTexts.{SchemaText, IsRefusedText}
-use Rattle.tc_decide.specs.Limits.{symbols_of_schema, symbols_of_sheet, IsWithinLimits, PassesLimit, IsValidityWithin, IsWithinSheetLimits, SheetPasses, IsRunWithin}
+use Rattle.tc_decide.specs.Limits.{symbols_of_sheet, IsValidityWithin, IsWithinSheetLimits, SheetPasses, IsRunWithin}
+use Rattle.tc_decide.specs.Validating.{PassesValidity}
 use Rattle.tc_answer.specs.declared.status.Status.TheVariants.{Limit}
 use Rattle.tc_answer.specs.Answers.{Answer, safe, unsafe, unsafe_large, rows_limit, counterexample_limit, refused, over_limit, is_valid, is_invalid, has_result, work_limit, open_limit}
 
@@ -52,8 +48,7 @@ Checks most input output sheet input_text output_text sheet_text answer = OfText
 
 -- what a schema and a document decide
 pub data Decides (g : Grammar) (d : Trees) : Answer → Type 0 where
-  passes : {kind : kinds.Limit} {number : ℕ} → PassesLimit g side.input MOST_INPUT_STATES kind number → Decides g d (over_limit kind number)
-  too_many_symbols : IsWithinLimits g side.input MOST_INPUT_STATES → MOST_SYMBOLS < symbol_count (symbols_of_schema g) → Decides g d (over_limit Symbols MOST_SYMBOLS)
+  passes : {kind : kinds.Limit} {number : ℕ} → PassesValidity g kind number → Decides g d (over_limit kind number)
   decides_valid : IsValidityWithin g → IsValid g d → Decides g d is_valid
   decides_invalid : IsValidityWithin g → ¬ (IsValid g d) → Decides g d is_invalid
 

@@ -1,10 +1,11 @@
 -- What is answered of two schemas: whether the first is included in the second, and whether both have the same valid documents.
 use Rattle.std.specs.Prelude.{◌<◌, ◌≤◌, ℕ, List}
+use Rattle.tc_base.specs.declared.limits.TheConstants.{MOST_SHOWN_NODES}
 use Rattle.tc_answer.specs.Answers.{Answer, included, not_included, equal, first_only, second_only, rows_limit, counterexample_limit, over_limit, refused}
 use Rattle.tc_base.specs.declared.Limit.{Limit}
 use Rattle.tc_decide.specs.Comparing.{Question, inclusion, equality, HasManyCovers, HasFewCovers, AreWithinPairLimits, PassesPairLimit, forward, backward, IsShown, IsOfOne}
 use Rattle.tc_decide.specs.RowCounts.{RowCount}
-use Rattle.tc_decide.specs.declared.limits.TheConstants.{MOST_ROWS, MOST_SHOWN_NODES}
+use Rattle.tc_decide.specs.declared.limits.TheConstants.{MOST_ROWS}
 use Rattle.tc_incl.specs.Counts.{IsRowOfLiveTree, IsRowOfLiveHedge}
 use Rattle.tc_incl.specs.Schemas.{IsIncluded, IsDifference}
 use Rattle.tc_model.specs.Grammars.{Grammar}

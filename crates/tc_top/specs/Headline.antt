@@ -1,5 +1,6 @@
 -- What a call decides, where the store tells the texts.
 use Rattle.std.specs.Prelude.{◌≡◌, ◌≤◌, ◌⊎◌, ◌↔◌, ℕ, List, length, Option, Some, codes}
+use Rattle.tc_base.specs.declared.limits.TheConstants.{MOST_SHOWN_NODES}
 use Rattle.tc_base.specs.declared.Limit as kinds
 use Rattle.tc_io.specs.Store.{Files, longest_file}
 use Rattle.tc_io.specs.Sink.{Appended}
@@ -19,7 +20,6 @@ use Rattle.tc_decide.specs.Limits.{IsValidityWithin}
 use Rattle.tc_answer.specs.SchemaWords.{file_of}
 use Rattle.tc_answer.specs.Words.{check, run, valid, Words}
 use Rattle.tc_top.specs.SchemaTexts.{SchemaText}
-use Rattle.tc_decide.specs.declared.limits.TheConstants.{MOST_SHOWN_NODES}
 use Rattle.tc_answer.specs.declared.status.Status.{Status}
 use Rattle.tc_answer.specs.declared.status.Status.TheVariants.{Yes, No, Limit, ReadFault, WriteFault, NoMemory}
 

@@ -2,7 +2,7 @@
 ghost use Rattle.std.specs.Prelude.{◌≡◌, ◌≤◌, ℕ, List, IfOk};
 ghost use Rattle.tc_answer.specs.Words as w;
 ghost use Rattle.tc_answer.specs.Words.{Words};
-ghost use Rattle.tc_decide.specs.declared.limits.TheConstants.{GREATEST_LIMIT};
+ghost use Rattle.tc_base.specs.declared.limits.TheConstants.{GREATEST_LIMIT};
 ghost use Rattle.tc_io.specs.Reads.{Happened};
 ghost use Rattle.tc_top.specs.AnswersSeen.{IsRightFor};
 ghost use Rattle.tc_top.specs.Checking.{most_rows};

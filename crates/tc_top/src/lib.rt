@@ -22,6 +22,7 @@ mod verify;
 ghost use Rattle.std.specs.Prelude.{◌≡◌, ◌≤◌, ◌⊎◌, ℕ, List, Option, Some, IfOk, OnErr};
 ghost use Rattle.tc_io.specs.Faults.{Rose};
 ghost use Rattle.tc_io.specs.Reads.{Happened};
+ghost use Rattle.tc_io.specs.Sink.{AreWrites};
 ghost use Rattle.tc_io.specs.Store.{Files};
 ghost use Rattle.tc_model.specs.Grammars.{Grammar};
 ghost use Rattle.tc_model.specs.Sheets.{Sheet};
@@ -71,8 +72,10 @@ pub fn typecheck<S: Store, K: Sink>(
     sink: &mut K,
 ) -> Status
     // A call ends with an answer that is right for the words and for what was read, in order, up to the first read that
-    // wasn't Ok; with such an answer broken off by a fault of writing; or, only for a command, for want of memory.
+    // wasn't Ok, and the writes are its lines, in order; with such an answer broken off by the first write that failed; or, only for a
+    // command, for want of memory.
     ensures ends { Ends words.now (Happened S.read_gives S.holds S.faults store.old store.new)
+        (λ writes. AreWrites K.write_gives sink.old writes sink.new)
         (Rose (K.faults sink.old) (K.faults sink.new)) (K.written sink.old)
         (K.written sink.new) result }
     ensures unwritten { result ≡ Status.NoMemory → sink.new ≡ sink.old }
@@ -84,7 +87,7 @@ pub fn typecheck<S: Store, K: Sink>(
     ensures unread { ReadsNothing words.now → store.new ≡ store.old }
 
     // Where the store tells what it holds, an answer is given that is right for the files, by its cause: the one answer, but for what is left
-    // open, by `law_of_answers`.
+    // open, by `law_of_answers`; unless memory is refused, or a read or a write failed.
     ensures exactly { (files : Files) → S.holds store.old ≡ Some files
         → IsCutShort result (Rose (S.faults store.old) (S.faults store.new))
         (Rose (K.faults sink.old) (K.faults sink.new))
@@ -109,7 +112,8 @@ pub fn typecheck<S: Store, K: Sink>(
         (Rose (K.faults sink.old) (K.faults sink.new))
         ⊎ DecidesSafety result (K.written sink.old) (K.written sink.new) (most_rows limit) i o s }
 
-    // So is a demonstration on the texts that it makes, for which nothing is read.
+    // So is a demonstration on the texts that it makes, for which nothing is read. That they spell a schema and a stylesheet, at each size, is
+    // tested and not proved: it is a premise here, and in the next two clauses.
     ensures demo_safe { (size : ℕ) (g : Grammar) (s : Sheet) → Words words.now (w.demo size)
         → RncText (demo_schema size) g → IsSheetOf demo_sheet s
         → result ≡ Status.Yes → IsSafe g g s }

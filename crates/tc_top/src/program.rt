@@ -4,6 +4,7 @@ ghost use Rattle.std.specs.Process.{exit_status};
 ghost use Rattle.std.specs.Vec.Iter.{into_iter_items};
 ghost use Rattle.tc_io.specs.Faults.{Rose};
 ghost use Rattle.tc_io.specs.Reads.{Happened};
+ghost use Rattle.tc_io.specs.Sink.{AreWrites};
 ghost use Rattle.tc_top.specs.Answers.{Ends};
 ghost use Rattle.tc_top.specs.Program.{words_of, LackMemory};
 ghost use Rattle.tc_answer.specs.StatusSeen.{number_of};
@@ -31,6 +32,7 @@ pub fn run_program<S: Store, K: Sink>(
     // The words are carried out, unless memory was refused for them.
     ensures ends { (status : Status) × (exit_status result ≡ number_of status)
         × (Ends (words_of arguments) (Happened S.read_gives S.holds S.faults store.old store.new)
+        (λ writes. AreWrites K.write_gives sink.old writes sink.new)
         (Rose (K.faults sink.old) (K.faults sink.new)) (K.written sink.old)
         (K.written sink.new) status
         ⊎ ((status ≡ Status.NoMemory) × LackMemory arguments)) }

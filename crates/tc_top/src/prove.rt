@@ -3,7 +3,7 @@ ghost use Rattle.std.specs.Prelude.{◌≤◌, IfOk, length};
 ghost use Rattle.tc_answer.specs.Answers as a;
 ghost use Rattle.tc_answer.specs.AnswersSeen.{Says};
 ghost use Rattle.tc_base.specs.Reading.{longest_text};
-ghost use Rattle.tc_decide.specs.declared.limits.TheConstants.{GREATEST_LIMIT};
+ghost use Rattle.tc_base.specs.declared.limits.TheConstants.{GREATEST_LIMIT};
 ghost use Rattle.tc_top.specs.Certifying.{Proves};
 
 use crate::schema_texts::schema_text;

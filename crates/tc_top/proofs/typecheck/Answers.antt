@@ -10,6 +10,7 @@ use Rattle.tc_top.proofs.CutShort.{by_fault, by_memory, fault_not_no, fault_not_
 use Rattle.tc_top.proofs.OnFiles.{on_files, gives_on, gives_usage}
 use Rattle.tc_top.proofs.FilesInPieces.{validity_in_pieces}
 use Rattle.tc_answer.specs.Words.{Words}
+use Rattle.tc_answer.specs.Writing.{AreWritten, BreakOff, lines_of}
 use Rattle.tc_top.proofs.typecheck.Goals as goal
 
 pub returns-in-Ok-clause-ends : goal.returns-in-Ok-clause-ends
@@ -17,7 +18,8 @@ returns-in-Ok-clause-ends g c =
     let right = at_words c.as_slice.ensures c.in-Ok.ensures.right in
     let fault = c.in-Err-write_lines.ensures in
     let front = subst (WroteFront (g.K.Sink.written c.args.sink.now) (g.K.Sink.written c.write_lines.new.sink)) (c.as_bytes.ensures ∙ right.2.1.written) fault.fault in
-    broken_off right.1 right.2.2 refl front fault.rose
+    let lines = subst (λ text. BreakOff (lines_of text) fault.broken.0) (c.as_bytes.ensures ∙ right.2.1.written) fault.broken.2 in
+    broken_off {writes = fault.broken.0} right.1 right.2.2 refl fault.broken.1 lines front fault.rose
 
 pub returns-clause-ends : goal.returns-clause-ends
 returns-clause-ends g c = let command = c.in-Err.ensures.no_memory in out_of_memory (subst (λ w. Words w command.0) c.as_slice.ensures command.1) refl
@@ -26,7 +28,9 @@ pub returns-in-Ok-write_lines-clause-ends : goal.returns-in-Ok-write_lines-claus
 returns-in-Ok-write_lines-clause-ends g c =
     let right = at_words c.as_slice.ensures c.in-Ok.ensures.right in
     let written = subst (Appended (g.K.Sink.written c.args.sink.now) (g.K.Sink.written c.write_lines.new.sink)) (c.as_bytes.ensures ∙ right.2.1.written) c.in-Ok-write_lines.ensures.ok in
-    answered right.1 right.2.2 right.2.1.status written
+    let whole = c.in-Ok-write_lines.ensures.whole in
+    let lines = subst (λ text. AreWritten (lines_of text) whole.0) (c.as_bytes.ensures ∙ right.2.1.written) whole.2 in
+    answered {writes = whole.0} right.1 right.2.2 right.2.1.status whole.1 lines written
 
 pub returns-in-Ok-write_lines-clause-usage : goal.returns-in-Ok-write_lines-clause-usage
 returns-in-Ok-write_lines-clause-usage g c = λ none.

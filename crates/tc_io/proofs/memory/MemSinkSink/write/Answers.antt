@@ -20,8 +20,8 @@ returns-then-next_fails-clause-fault c = rw (← c.self.view_is) (no_front (Some
 pub returns-then-next_fails-clause-rose : goal.returns-then-next_fails-clause-rose
 returns-then-next_fails-clause-rose c = rw (← c.self.view_is) (raised_rose c.self.inside.faults c.saturating_add-self-inside.result c.saturating_add-self-inside.ensures)
 
-pub returns-then-next_fails-clause-writes : goal.returns-then-next_fails-clause-writes
-returns-then-next_fails-clause-writes c = rw (← c.self.view_is) (inl (
+pub returns-then-next_fails-clause-gives : goal.returns-then-next_fails-clause-gives
+returns-then-next_fails-clause-gives c = rw (← c.self.view_is) (inl (
   c.if-next_fails.ensures.fails.0 refl,
   sink_is _ _ _ _ _ _ _ _ _ (sym (append-nil c.self.inside.bytes.items)) c.next_fails.ensures.so_far c.next_fails.ensures.failing c.saturating_add-self-inside.ensures,
 ))
@@ -52,8 +52,8 @@ returns-then-fits-piece-clause-fault c =
     let appended = items_done c.self.inside.bytes.items (take c.min-fits.result c.args.piece.now) c.extend_from_slice-appended.ensures.items done in
     rw (← c.self.view_is) (cut_front _ _ c.args.piece.now c.min-fits.result (ap Some appended))
 
-pub returns-then-fits-piece-clause-writes : goal.returns-then-fits-piece-clause-writes
-returns-then-fits-piece-clause-writes c =
+pub returns-then-fits-piece-clause-gives : goal.returns-then-fits-piece-clause-gives
+returns-then-fits-piece-clause-gives c =
     let done : IsOk c.extend_from_slice-appended.result = fits_held _ _ _ _ c.args.piece.now c.self.invariant c.len.ensures c.min-fits.ensures c.extend_from_slice-appended.ensures.succeeds in
     let short : c.min-fits.result < length c.args.piece.now = elim c.then-fits-piece.branch [
       | then-fits-piece-via-then-fits-piece w ↦ w.if-fits-piece.true
@@ -77,8 +77,8 @@ returns-clause-ok c =
     let appended = items_done c.self.inside.bytes.items (take c.min-fits.result c.args.piece.now) c.extend_from_slice-appended.ensures.items done in
     rw (← c.self.view_is) (ap Some (appended ∙ ap (λ x. c.self.inside.bytes.items ++ x) all))
 
-pub returns-clause-writes : goal.returns-clause-writes
-returns-clause-writes c =
+pub returns-clause-gives : goal.returns-clause-gives
+returns-clause-gives c =
     let all = take_all c.min-fits.result c.args.piece.now c.if-fits-piece.false in
     let done : IsOk c.extend_from_slice-appended.result = fits_held _ _ _ _ c.args.piece.now c.self.invariant c.len.ensures c.min-fits.ensures c.extend_from_slice-appended.ensures.succeeds in
     let appended = items_done c.self.inside.bytes.items (take c.min-fits.result c.args.piece.now) c.extend_from_slice-appended.ensures.items done in
