@@ -96,6 +96,8 @@ impl Sink for Pieces {
 
     ghost faults = { λ _. 0 };
 
+    ghost write_gives = { λ _ _ _ _. Unit {0} };
+
     fn write(&mut self, piece: &[u8]) -> Result<(), WriteFault> {
         self.count = self.count.saturating_add(1);
         if let [front @ .., _] = piece

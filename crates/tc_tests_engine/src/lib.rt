@@ -11,6 +11,8 @@ mod certificate_texts;
 #[cfg(test)]
 mod dead_spots;
 #[cfg(test)]
+mod listed_rows;
+#[cfg(test)]
 mod matrices;
 #[cfg(test)]
 mod path_states;
