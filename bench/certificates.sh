@@ -1,6 +1,7 @@
 #!/usr/bin/env bash
 # Verifies certificates beside what `check` and `prove` take on the same safe triples, those like real ones with the
-# instructions that callgrind counts; and reads a certificate's text of version 1, of 64 MiB, beside `xmllint --noout` on as
+# instructions that callgrind counts, and what is aimed at: of `verify` a tenth more than of `check`, of `prove` a quarter more,
+# of `check` as told; and reads a certificate's text of version 1, of 64 MiB, beside `xmllint --noout` on as
 # many bytes: the time and the peak memory of each. Each run is stopped after some seconds. It wants python3 and the Debian
 # packages time, valgrind and libxml2-utils. Words: the number of runs (5), the seconds (30), the bytes (67100000).
 set -eu
@@ -21,8 +22,9 @@ verify_all() {
     # shellcheck disable=SC2086
     if timeout "$seconds" "$program" prove $texts >"$triple/C"; then
       echo "$name: $("$program" verify $texts "$triple/C"), a certificate of $(wc -c <"$triple/C") bytes"
-      # shellcheck disable=SC2086
-      $measure $2 "$runs" check "$program check $texts" prove "$program prove $texts" verify "$program verify $texts $triple/C"
+      # shellcheck disable=SC2046,SC2086
+      $measure $2 $(aim_of "$name") --times 1 1.25 1.1 -- "$runs" check "$program check $texts" \
+        prove "$program prove $texts" verify "$program verify $texts $triple/C"
     else
       echo "$name: no certificate within $seconds seconds"
     fi

@@ -1,29 +1,103 @@
 #!/usr/bin/env bash
-# Runs the program on the texts of make_hostile.py, under limits on memory, stack (8 MB) and time: each row's words, the bytes
-# of its files, the status and the first line of the answer, the seconds, the kilobytes of memory, and the seconds of a processor
-# in the program and in the system. Files of at most 100,000 bytes may take 10 seconds and 1 GB, others 60 seconds and 40 times
-# their bytes, but 1 GB in any case. It fails where a call ends by a signal, is stopped, or answers otherwise than stands here,
-# which is derived from the definitions. Rows that PROFILE says may take more get ten minutes and 6 GB; it tells how many times
-# their processor time and memory they take. Words: the number by which the seconds are multiplied (1), and what a row's words
-# have to hold, if not all rows are meant. With the word `stack` in place of both, the smallest stack that each of the deepest
-# texts takes; with the word `twice`, how the processor time grows with twice the text, which fails past 2.2, but for texts that
-# PROFILE says may take more (the second word is as above). It wants python3, the Debian package time, and some 6 GB.
+# Runs the program on the texts of make_hostile.py, under limits on memory, stack (8 MB) and time of a processor, user and
+# system: each row's words, the bytes of its files, the status and the first line of the answer, the seconds, the kilobytes
+# of memory, and the seconds of a processor in the program and in the system. Files of at most 100,000 bytes may take 10
+# seconds and 1 GB, others 60 seconds and 40 times their bytes, but 1 GB in any case. It fails where a call ends by a
+# signal, is stopped (status 152 after its seconds, 124 where it waits for sixty times as long), or answers otherwise than
+# stands here, which is derived from the definitions. Rows that PROFILE says may take more get ten minutes and 6 GB, or the
+# seconds below; it tells how many times their seconds and memory they take. Words: the number by which the seconds are
+# multiplied (1), and what a row's words have to hold, if not all rows are meant. With the word `stack` in place of both,
+# the smallest stack that each of the deepest texts takes; with the word `twice`, how the processor time grows with twice
+# the text, which fails past 2.2, but for texts that PROFILE says may take more (the second word is as above). The variable
+# JOBS is the number of rows that run side by side (that of processors); they are told in their order. Together they may ask
+# for the kilobytes of MEMORY (three quarters of what is free); one that may ask for more runs alone. It wants python3, the
+# Debian package time, and some 6 GB.
 set -eu
 . "$(dirname "$0")/program.sh"
 times=${1:-1}
 only=${2:-}
-files=$work/files
-failed=0
+width=${JOBS:-$(nproc)}
+free=${MEMORY:-$(awk '/^MemAvailable/ { print int($2 * 3 / 4) }' /proc/meminfo)}
+
+# The seconds of rows whose end nobody waits for, and the kilobytes that texts take, where they are more than they may.
+declare -A stopped=(['twice 22 5000']=60)
+declare -A large=(
+  ['scopes 20000 run S D']=6000000
+  ['scopes 5000 run S D']=6000000
+  ['declarations 20000 40000 valid I D']=6000000
+  ['declarations 10000 20000 valid I D']=6000000
+  ['marks ( 67108864 run P D']=3000000
+  ['marks *| 67108864 run P D']=6000000
+)
+
+# Rows side by side: each has a directory `here` of its own, and those that ended are told in their order. The pipe holds a line
+# for each row that may begin.
+begun=0
+told=0
+echo 0 >"$work/claimed"
+mkfifo "$work/turns"
+exec 3<>"$work/turns"
+yes '' | head -n "$width" >&3
+
+tell_ended() {
+  while [ -f "$work/$((told + 1)).told" ]; do
+    told=$((told + 1))
+    cat "$work/$told.told"
+  done
+}
+
+# Begins a row, which is a function and its words.
+beside() {
+  read -ru 3
+  tell_ended
+  begun=$((begun + 1))
+  (
+    trap 'echo >&3' EXIT
+    here=$work/$begun
+    files=$here/files
+    mkdir "$here"
+    "$@" >"$here/line"
+    mv "$here/line" "$here.told"
+    rm -r "$here"
+  ) &
+}
+
+# Ends the script once all rows have ended: with status 1 where one has failed, or told nothing.
+finish() {
+  for _ in $(seq "$width"); do
+    read -ru 3
+    tell_ended
+  done
+  ((told == begun)) || echo "row $((told + 1)) told nothing"
+  [ "$told" = "$begun" ] && [ ! -e "$work/failed" ]
+  exit
+}
+
+# Waits until the rows that run leave so many kilobytes, or none runs, and takes them; gives them back where they are negative.
+claim() {
+  local before
+  exec 9>"$work/lock"
+  flock 9
+  before=$(cat "$work/claimed")
+  while (($1 > 0 && before > 0 && before + $1 > free)); do
+    flock -u 9
+    sleep 0.2
+    flock 9
+    before=$(cat "$work/claimed")
+  done
+  echo "$((before + $1))" >"$work/claimed"
+  exec 9>&-
+}
 
 # The files of some words of make_hostile.py.
 make() {
   local words
   read -ra words <<<"$1"
-  rm -rf "$files"
   python3 "$top/bench/make_hostile.py" "$files" "${words[@]}"
 }
 
-# The program on these files within so many seconds and kilobytes of memory and stack: what it writes, the seconds and the memory.
+# The program on these files within so many seconds of a processor and kilobytes of memory and stack: what it writes, the
+# seconds and the memory.
 run() {
   local seconds=$1 memory=$2 stack=$3
   shift 3
@@ -31,17 +105,14 @@ run() {
     cd "$files"
     ulimit -v "$memory"
     ulimit -s "$stack"
-    exec /usr/bin/time -q -o "$work/taken" -f '%e %M %U %S' timeout "$seconds" "$program" "$@"
-  ) >"$work/answer" 2>"$work/errors"
+    ulimit -St "$seconds"
+    exec /usr/bin/time -q -o "$here/taken" -f '%e %M %U %S' timeout "$((60 * seconds))" "$program" "$@"
+  ) >"$here/answer" 2>"$here/errors" 3>&-
 }
 
-# Runs the program on the files of some words: `answer` is its status and the first line, `bytes` those of the files read, and
-# `bound` and `memory` the seconds and kilobytes that they may take. The first number is that of seconds which it gets, where it
-# isn't the bound, and the second that of kilobytes.
-attempt() {
-  local seconds=$1 kilobytes=$2 words=$3 word status=0
-  shift 3
-  make "$words"
+# `bytes` of the files that are read, and `bound` and `memory`, the seconds and kilobytes that they may take.
+measure() {
+  local word
   bytes=0
   for word in "$@"; do
     word=$files/${word##*:}
@@ -53,42 +124,65 @@ attempt() {
     bound=60
     memory=$((bytes / 25 > memory ? bytes / 25 : memory))
   fi
+}
+
+# Runs the program on the files of some words: `answer` is its status and the first line. The first number is that of seconds
+# which it gets, where it isn't the bound, and the second that of kilobytes.
+attempt() {
+  local seconds=$1 kilobytes=$2 words=$3 most status=0
+  shift 3
+  make "$words"
+  measure "$@"
+  most=${large["$words $*"]:-$memory}
+  claim "$most"
   run "$((${seconds:-$bound} * times))" "${kilobytes:-$memory}" 8192 "$@" || status=$?
-  answer="$status $(head -c 60 "$work/answer" | head -1)"
+  claim "-$most"
+  answer="$status $(head -c 60 "$here/answer" | head -1)"
 }
 
 # Tells what was attempted by some words, and what there is to say of it.
 tell() {
-  printf '%-30s %-22s %9d  %-62s %s\n' "$1" "${*:3}" "$bytes" "$answer" "$(tail -1 "$work/taken")$2"
+  printf '%-30s %-22s %9d  %-62s %s\n' "$1" "${*:3}" "$bytes" "$answer" "$(tail -1 "$here/taken")$2"
+}
+
+# That a row isn't as it is to be.
+fail() {
+  : >"$work/failed"
+  verdict+="  NOT: $1"
 }
 
 is_meant() {
   [[ "$*" == *"$only"* ]]
 }
 
-# A row: what the status and the first line have to match at their front, the words of the texts, and those of the program.
-row() {
+within() {
   local expected=$1 words=$2 verdict=
   shift 2
-  is_meant "$words" "$@" || return 0
   attempt '' '' "$words" "$@"
-  [[ "$answer" =~ ^($expected) ]] || { verdict="  NOT: $expected" && failed=1; }
+  [[ "$answer" =~ ^($expected) ]] || fail "$expected"
+  tell "$words" "$verdict" "$@"
+}
+
+# A row: what the status and the first line have to match at their front, the words of the texts, and those of the program.
+row() {
+  ! is_meant "${@:2}" || beside within "$@"
+}
+
+more() {
+  local expected=$1 words=$2 verdict
+  shift 2
+  attempt "${stopped[$words]:-600}" 6000000 "$words" "$@"
+  verdict=$(tail -1 "$here/taken" | awk "{ printf \"  %.1f of its seconds, %.1f of its memory\", (\$3 + \$4) / $bound, \$2 / $memory }")
+  [[ "$answer" =~ ^($expected|7 |152 ) ]] || fail "$expected"
   tell "$words" "$verdict" "$@"
 }
 
 # A row that may take more, since no limit bounds it.
 beyond() {
-  local expected=$1 words=$2 verdict
-  shift 2
-  is_meant "$words" "$@" || return 0
-  attempt 600 6000000 "$words" "$@"
-  verdict=$(tail -1 "$work/taken" | awk "{ printf \"  %.1f of its seconds, %.1f of its memory\", (\$3 + \$4) / $bound, \$2 / $memory }")
-  [[ "$answer" =~ ^($expected|7 |124 ) ]] || { verdict+="  NOT: $expected" && failed=1; }
-  tell "$words" "$verdict" "$@"
+  ! is_meant "${@:2}" || beside more "$@"
 }
 
-# The smallest stack, in kilobytes, with which the program answers and ends by no signal.
-stack() {
+smallest() {
   local words=$1 least=16 most=65536 middle status
   shift
   make "$words"
@@ -101,33 +195,55 @@ stack() {
   printf '%-30s %-22s %6d kB\n' "$words" "$*" "$most"
 }
 
-# The processor time of the program on the files of some words, the least of three runs.
-processor() {
-  local words=$1
-  shift
-  make "$words"
-  for _ in 1 2 3; do
-    run 600 6000000 8192 "$@" || true
-    tail -1 "$work/taken" | awk '{ print $3 + $4 }'
-  done | sort -g | head -1
+# The smallest stack, in kilobytes, with which the program answers and ends by no signal.
+stack() {
+  beside smallest "$@"
 }
 
-# How many times the processor time of the first words' files that of the second ones' is, which have twice the text.
-twice() {
-  local first=$1 second=$2 one two verdict=
+# The least of some seconds, or none, and those of a processor that the program takes on the files of a directory.
+least() {
+  local before=$1
+  files=$2
   shift 2
-  is_meant "$second" "$@" || return 0
-  one=$(processor "$first" "$@")
-  two=$(processor "$second" "$@")
-  awk "BEGIN { exit !($two > 1 && $two > 2.2 * $one) }" && verdict='  MORE THAN TWICE' && failed=1
+  run 600 6000000 8192 "$@" || true
+  tail -1 "$here/taken" | awk -v before="$before" '{ taken = $3 + $4; print before == "" || taken < before + 0 ? taken : before }'
+}
+
+# Whether twice the text takes more than a second and more than 2.2 times as long.
+is_more() {
+  awk "BEGIN { exit !($2 > 1 && $2 > 2.2 * $1) }"
+}
+
+# The words of two texts, the second twice as long: the least seconds of a processor of three runs of each, in turn. What
+# disturbs a run only adds to it: so where they are too many it goes on up to so many runs, and one is enough below a second.
+compare() {
+  local rounds=$1 first=$2 second=$3 one= two= most verdict= round
+  shift 3
+  files=$here/one
+  make "$first"
+  files=$here/two
+  make "$second"
+  measure "$@"
+  most=${large["$second $*"]:-$memory}
+  claim "$most"
+  for ((round = 1; round <= rounds; round++)); do
+    one=$(least "$one" "$here/one" "$@")
+    two=$(least "$two" "$here/two" "$@")
+    ((round < 3)) || is_more "$one" "$two" || break
+    awk "BEGIN { exit !($two > 1) }" || break
+  done
+  claim "-$most"
+  ((rounds == 3)) || ! is_more "$one" "$two" || fail '2.2 times'
   printf '%-30s %-22s %8s s %8s s%s\n' "$second" "$*" "$one" "$two" "$verdict"
+}
+
+twice() {
+  ! is_meant "${@:2}" || beside compare 9 "$@"
 }
 
 # The same of texts that PROFILE says may take more.
 grows() {
-  local before=$failed
-  twice "$@"
-  failed=$before
+  ! is_meant "${@:2}" || beside compare 3 "$@"
 }
 
 if [ "$times" = twice ]; then
@@ -180,7 +296,7 @@ if [ "$times" = twice ]; then
   for unit in '{' '(' '*|' '<' '&' ']]' '-' '"' 13 128512; do
     twice "marks $unit 33554432" "marks $unit 67108864" valid I D
   done
-  exit "$failed"
+  finish
 fi
 
 if [ "$times" = stack ]; then
@@ -211,7 +327,7 @@ if [ "$times" = stack ]; then
   stack 'branches 498 2000' dead I S
   stack 'residues 3 5 7 19' check I O S
   stack 'residues 3 5 7 19' include I A
-  exit
+  finish
 fi
 
 # What stands within one another, as deep as may be, and once more.
@@ -367,4 +483,4 @@ row '3 refused I ' 'marks " 67108864' valid I D
 for unit in 13 128512; do
   row '3 refused I undefined at ' "marks $unit 67108864" valid I D
 done
-exit "$failed"
+finish

@@ -6,6 +6,8 @@
 A line for each call: its name, its status, its first line as a pattern of the shell, and its words, with tabs between. The
 answers are those that README and PROFILE tell.
 """
+from make_triple import HEAD, marked
+
 XSLT = "http://www.w3.org/1999/XSL/Transform"
 SOURCE, TARGET, NARROW = "element a { empty }", "element r { element x { empty }* }", "element r { empty }"
 # The certificate of one of these schemas and the stylesheet that puts out `r` with an `x` in it, with the pairs of one set.
@@ -288,6 +290,17 @@ def other_limits(calls, i, o, s, d):
         calls.limit(f"valid --stream {size}: names", "names 65536", "valid", "--stream", size, i, long_names)
 
 
+def large_limits(calls):
+    """The limits of sets of pairs, and of a certificate that is written: one of 67,108,865 bytes in version 2."""
+    source, target, rules = marked(9, 64, 0)
+    words = [calls.file(source), calls.file(target), calls.file(f"{HEAD}{rules}</xsl:stylesheet>")]
+    for command in ("check", "prove"):
+        calls.limit(f"{command}: outputs", "outputs 65536", command, *words)
+    row, other = (",".join([digit] * 5684991) for digit in "01")
+    text = f"xslt-typecheck certificate 1\noutputs 0\ntrees 2\nt 0 0 10 {row} -\nt 0 0 100 {other} -\nhedges 0\nend\n"
+    calls.limit("upgrade: certificate", "certificate 67108864", "upgrade", calls.file(text))
+
+
 def main():
     calls = Calls()
     i, o, s, d = answers(calls)
@@ -295,6 +308,7 @@ def main():
     schema_limits(calls, o, s, d)
     sheet_limits(calls, i, o, d)
     other_limits(calls, i, o, s, d)
+    large_limits(calls)
 
 
 main()

@@ -15,6 +15,8 @@ Costly ones, within the limits:
   paths 900 2 6     a select of many alternatives, with predicates
   bodies 10 20000   bodies of many instructions that read nothing
   sets 59 29        many sets of pairs
+  marked 9 63 45    a set of pairs for each list of at most 9 elements of two kinds in 63 modes: 65,458, of 255 states; with 64
+                    modes 66,497, which are too many
 """
 import os
 import sys
@@ -236,7 +238,20 @@ def sets(count, modes):
     return source, target, sheet + rule("q", "".join(f'<xsl:apply-templates mode="m{mode}"/>' for mode in range(modes)))
 
 
-FAMILIES = (report, above, copies, page, dense, wide, wraps, paths, bodies, sets)
+def marked(length, modes, others):
+    """Whether each of the names, and of so many others, occurs is told by the sets of pairs: 2 + 4 + .. of lists, those of
+    the trees behind the first place and that of `d` in each mode, and that of nothing."""
+    places = range(1, length + 1)
+    source = f"start = d\nd = element d {{ {', '.join(f'(x{i} | y{i})' for i in places)} }}\n"
+    source += "".join(f"{name}{i} = element {name}{i} {{ empty }}\n" for i in places for name in "xy")
+    told = [f"{name}{i}" for i in places for name in "xy"] + [f"m{m}" for m in range(modes)] + [f"o{k}" for k in range(others)]
+    target = f"start = r\nr = element r {{ empty | {choice(f'n{name}*' for name in told)} }}\n"
+    target += "".join(f"n{name} = element * - {name} {{ empty }}\n" for name in told)
+    sheet = rule("/", "<r/>") + "".join(rule("*", f"<xsl:copy/><m{m}/>", f"m{m}") for m in range(modes))
+    return source, target, sheet
+
+
+FAMILIES = (report, above, copies, page, dense, wide, wraps, paths, bodies, sets, marked)
 
 
 def main():
@@ -249,4 +264,5 @@ def main():
             file.write(text)
 
 
-main()
+if __name__ == "__main__":
+    main()
