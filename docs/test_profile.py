@@ -60,8 +60,9 @@ def code():
 
 
 def numbers_of(text):
-    """The constants of a text with their numbers."""
-    return {name: int(number) for name, number in re.findall(r"const (\w+): \w+ = ([\d_]+);", text)}
+    """The constants of a text with their numbers, also of those that are another constant of it."""
+    numbers = {name: int(number) for name, number in re.findall(r"const (\w+): \w+ = ([\d_]+);", text)}
+    return numbers | {name: numbers[other] for name, other in re.findall(r"const (\w+): \w+ = ([A-Z_]+) as \w+;", text)}
 
 
 def printed_limits():
@@ -105,16 +106,15 @@ class Limits(unittest.TestCase):
     def test_kinds_and_numbers(self):
         told = re.findall(r"`limit (\w+) (\w+)`", "".join(row[2] for row in self.rows))
         self.assertEqual({(kind, str(self.numbers.get(number, "N"))) for kind, number in printed_limits()}, set(told))
-        self.assertEqual({number for _, number in printed_limits()} | {"GREATEST_LIMIT"}, {*self.numbers, "most"})
+        others = {"GREATEST_LIMIT", "DEEPEST_NESTING"}
+        self.assertEqual({number for _, number in printed_limits()} | others, {*self.numbers, "most"})
 
     def test_both_columns_have_one_number(self):
-        nesting = {number for text in code().values() for name, number in numbers_of(text).items() if name == "DEEPEST"}
-        self.assertEqual(len(nesting), 1)
         for what, number, answer in self.rows:
             with self.subTest(what):
                 told = dict.fromkeys(re.findall(r"`limit \w+ (\w+)`", answer))
                 if answer == "`refused NAME too-deep at PLACE`":
-                    told = nesting
+                    told = [self.numbers["DEEPEST_NESTING"]]
                 elif "N" in told:
                     self.assertTrue(number.endswith(", or N of `--limit`"))
                     number, told = number.removesuffix(", or N of `--limit`"), [self.numbers["MOST_ROWS"]]

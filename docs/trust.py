@@ -3,7 +3,8 @@
 
 trust.py CLAUSE        prints them in their reading order, each with its file, its line and its number of lines
 trust.py CLAUSE text   prints what they say, too
-trust.py               writes the tables of docs/TRUST.md and the sums in README.md
+trust.py sums          prints a line for each call, which tells of each of its clauses on how many lines in how many modules it rests
+trust.py               writes the table of lines in docs/TRUST.md and the sum in README.md
 
 docs/definitions.py reads the definitions.
 """
@@ -158,41 +159,35 @@ def print_clause(clause, reached, order, with_texts):
     print("words of the library:", *reached.library)
 
 
-def table(head, rows):
-    """A table, whose columns of numbers stand to the right."""
-    marks = ["---:" if isinstance(cell, int) else "---" for cell in rows[0]]
-    return "".join("| " + " | ".join(map(str, row)) + " |\n" for row in [head, marks, *rows])
-
-
 def first_table(safe):
-    links = {module: f"[`{module.replace('.specs.', '.')}`](../{file_of(module)})" for module in FIRST}
-    rows = [[links[module], subject(module), line_count(safe.within(module))] for module in FIRST]
-    return table(["module", "what it says", "lines"], rows)
+    """The modules to read first, each with its lines on which a clause rests; the numbers stand to the right."""
+    rows = [
+        f"[`{module.replace('.specs.', '.')}`](../{file_of(module)}) | {subject(module)} | {line_count(safe.within(module))}\n"
+        for module in FIRST
+    ]
+    return "".join(["module | what it says | lines\n", "---|---|---:\n", *rows])
 
 
-def clause_table(found):
-    """A row a call, with its clauses; a law without names of clauses is a call of its own."""
+def sums(found):
+    """A line a call, with its clauses; a law without names of clauses is a call of its own."""
     rows = {}
     for name, one in found.items():
         call, _, clause = name.rpartition(".")
         if not call:
             call, clause = (name, "") if name.startswith("law_of_") else ("typecheck", name)
-        rows.setdefault(call, []).append(f"`{clause}` {one.lines()}/{len(one.modules())}".removeprefix("`` "))
-    return table(["call", "clauses, each with lines/modules"], [[f"`{call}`", ", ".join(cells)] for call, cells in rows.items()])
+        rows.setdefault(call, []).append(f"{clause} {one.lines()}/{len(one.modules())}".strip())
+    return [f"{call}: {', '.join(cells)}" for call, cells in rows.items()]
 
 
 def page(text, found):
-    """The page with its tables as they are now: each stands behind a comment that names it."""
-    for name, rows in (("first", first_table(found["check.safe"])), ("clauses", clause_table(found))):
-        text = re.sub(rf"(<!-- {name} -->\n\n)(?:\|.*\n)*", lambda match: match[1] + rows, text)
-    return text
+    """The page with its table as it is now: it stands behind a comment."""
+    return re.sub(r"(<!-- first -->\n\n)(?:.* \| .*\n|---.*\n)*", lambda match: match[1] + first_table(found["check.safe"]), text)
 
 
 def readme(text, found):
-    """README with its sums as they are now: the lines and the modules behind two clauses of `check`."""
-    safe, headline = found["check.safe"], found["check.headline"]
-    text = re.sub(r"\d+ lines in \d+ modules", f"{safe.lines()} lines in {len(safe.modules())} modules", text)
-    return re.sub(r"(`headline` on )\d+ in \d+", rf"\g<1>{headline.lines()} in {len(headline.modules())}", text)
+    """README with its sum as it is now: the lines and the modules behind clause `safe` of `check`."""
+    safe = found["check.safe"]
+    return re.sub(r"\d+ lines in \d+ modules", f"{safe.lines()} lines in {len(safe.modules())} modules", text)
 
 
 def main():
@@ -201,10 +196,12 @@ def main():
         case []:
             PAGE.write_text(page(PAGE.read_text(), found))
             README.write_text(readme(README.read_text(), found))
+        case ["sums"]:
+            print(*sums(found), sep="\n")
         case [clause, *rest] if clause in found and rest in ([], ["text"]):
             print_clause(clause, found[clause], reading_order(found), rest == ["text"])
         case _:
-            sys.exit("docs/trust.py [CLAUSE [text]], where CLAUSE is one of " + ", ".join(found))
+            sys.exit("docs/trust.py [sums | CLAUSE [text]], where CLAUSE is one of " + ", ".join(found))
 
 
 if __name__ == "__main__":
