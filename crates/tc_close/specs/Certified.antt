@@ -1,5 +1,5 @@
 -- The certificate of a stylesheet that is safe: exactly the rows of live trees and of live lists of trees, and exactly the sets of pairs in them.
--- Where the lines of the sets alone have more bytes than a certificate may have, none is made; one is there all the same.
+-- Where none is made since it has more bytes than one may have, one is there all the same.
 use Rattle.std.specs.Prelude.{◌≡◌, ◌<◌, ◌↔◌, ℕ, List, length, All, Option, MatchOption}
 use Rattle.std.specs.List.{Contains}
 use Rattle.tc_base.specs.declared.limits.TheConstants.{LONGEST_FILE}
@@ -43,7 +43,7 @@ module _ (x : Triple) where
   abbrev pub HasLongCertificate : Type 0
   HasLongCertificate = (d : CertData) × IsLeastCertificate d × (LONGEST_FILE < length (text by_changes d))
 
-  -- no count passes its limit, and this lists the rows and the sets; nothing is listed where its text would be too long
+  -- no count passes its limit, and this lists the rows and the sets; nothing is listed only where its text would be too long
   abbrev pub IsListed : ℕ → Option CertData → Type 0
   IsListed most list = KeepsCounts x most × MatchOption list HasLongCertificate IsLeastCertificate
 

@@ -49,8 +49,8 @@ fn list_over<K: Over>(
 }
 
 /// Lists the rows of a machine, be the stylesheet safe or not: exactly those of live trees and of live lists of trees, and
-/// exactly the sets of pairs in them, each once, in the order of their lines in a certificate. None where a certificate
-/// of them would be too long.
+/// exactly the sets of pairs in them, each once, in the order of their lines in a certificate. None only where a
+/// certificate of them would be too long.
 ///
 /// # Errors
 ///

@@ -27,8 +27,7 @@ use tc_settle::Closed;
 pub enum Proof<'b> {
     /// Every valid document is made into a valid one, by this certificate.
     Certified(CertData),
-    /// Every valid document is made into a valid one, and its certificate has more bytes than one may have: the lines of the sets of
-    /// pairs alone have.
+    /// Every valid document is made into a valid one, and its certificate has more bytes than one may have.
     TooLong,
     /// A valid document with a result that isn't valid, of the fewest nodes.
     Unsafe(Node<'b>),
