@@ -1,20 +1,8 @@
 -- Each text has a grammar or a refusal.
-use Rattle.std.proofs.Common.{◌≡◌, ◌⊎◌, inl, inr, ℕ, Bool, true, false, List, [], ◌∷◌, ◌++◌, refl, sym, subst, length, map, arith, bytes_eq, append_assoc, append-nil, ◌-◌}
+use Rattle.std.proofs.Common.{◌≡◌, ◌⊎◌, inl, inr, ℕ, Bool, true, false, List, [], ◌∷◌, ◌++◌, refl, sym, subst, bytes_eq, append_assoc, append-nil, ◌-◌}
 use Rattle.std.specs.List.{IsDistinct, Contains, AllByRecursion}
-use Rattle.tc_model.specs.Grammars.{Grammar}
-use Rattle.tc_model.specs.XmlTextRefusals.{Cause, unsupported, too_deep}
-use Rattle.tc_model.proofs.XmlTextRefused.{whole_front}
-use Rattle.tc_dtd.specs.Declarations.{Declaration}
-use Rattle.tc_dtd.specs.DtdGrammar.{Keeps, keeps_none, keeps, leaves, grammar_with, IsGrammarOfDtd}
-use Rattle.tc_dtd.specs.DtdText.{TextAt, deepest_parenthesis, HasForm, names_of, DtdText, FirstAgain, DtdTextRefuses}
+use Rattle.tc_dtd.specs.DtdText.{names_of, FirstAgain}
 use Rattle.tc_dtd.specs.DtdTextDeclarations.{Placed}
-use Rattle.tc_dtd.specs.DtdTextLaws.{IsRefusal, HasGrammarOrFault}
-use Rattle.tc_dtd.specs.Faults.{IsFaultOf}
-use Rattle.tc_dtd.specs.Outcomes.{read, refused}
-use Rattle.tc_dtd.specs.declared.faults.DtdFault.{DtdFault}
-use Rattle.tc_dtd.specs.declared.faults.DtdFault.TheVariants.{Malformed, Unsupported, TooDeep, Twice}
-use Rattle.tc_dtd.specs.declared.faults.Stop.TheVariants as stops
-use Rattle.tc_dtd.proofs.FaultLaws.{fault_is, here_or_deep}
 use Rattle.tc_dtd.proofs.NamedLaws.{in_first, in_rest, same_bytes}
 
 -- a name is among others, or differs from each
@@ -53,36 +41,3 @@ once_or_again before (x ∷ rest) u = by (among x.declaration.name (names_of bef
 pub distinct_none : IsDistinct bytes_eq (names_of [])
 unfolding IsDistinct
 distinct_none = tt
-
--- some declarations are those that are reached
-some_kept : (dtd : List Declaration) (root : List ℕ) (xs : List Declaration) → ((kept : List Declaration) → Keeps dtd root xs kept → ⊥) → ⊥
-some_kept dtd root [] none = none [] keeps_none
-some_kept dtd root (x ∷ xs) none = some_kept dtd root xs (λ kept h. none kept (leaves (λ r. none (x ∷ kept) (keeps r h)) h))
-
-module _ (bytes root : List ℕ) (no_grammar : (ds : List Declaration) (g : Grammar) → DtdText bytes ds → IsGrammarOfDtd ds root g → ⊥)
-    (no_fault : (fault : DtdFault) → IsRefusal fault → IsFaultOf bytes fault → ⊥) where
-  not_refused : (cause : Cause) (place : ℕ) → DtdTextRefuses bytes cause place → ⊥
-  not_refused (unsupported why) place x =
-      no_fault (Unsupported (record { 0 = length x.front - length x.at }) why) tt (fault_is bytes x.front (stops.Unsupported (length x.at) why) x.is_front (x.at, refl, x.refuses))
-  not_refused too_deep place x =
-      no_fault (TooDeep (record { 0 = length x.front - length x.at })) tt (fault_is bytes x.front (stops.TooDeep (length x.at)) x.is_front (x.at, refl, x.refuses))
-
-  formed : (found : List Placed) → HasForm deepest_parenthesis bytes found → IsDistinct bytes_eq (names_of found) ⊎ ((p : ℕ) × FirstAgain found p) → ⊥
-  formed found m (inl once) =
-      let ds = map (λ x. x.declaration) found in
-      let means : DtdText bytes ds = record { found = found; form = m; once = once; are = refl } in
-      some_kept ds root ds (λ kept h. no_grammar ds (grammar_with kept root) means (record { kept = kept; keeps_reached = h; is_grammar = refl }))
-  formed found m (inr (p, again)) = no_fault (Twice (record { 0 = p })) tt (found, m, again)
-
-  formless : (deepest : ℕ) (found : List Placed) → HasForm deepest bytes found → ⊥
-  formless deepest found m = by (here_or_deep deepest bytes found m.reads)
-    where
-      by : TextAt deepest_parenthesis bytes (read found []) ⊎ ((at : List ℕ) × TextAt deepest_parenthesis bytes (refused too_deep at)) → ⊥
-      by (inl k) = formed found (record { characters = m.characters; reads = k }) (once_or_again [] found distinct_none)
-      by (inr (at, k)) = not_refused too_deep _ (record { front = bytes; at = at; is_front = whole_front m.characters; refuses = k; stands = refl })
-
-  neither : ⊥
-  neither = no_fault (Malformed (record { 0 = 0 })) tt (omega arith, formless, not_refused)
-
-pub grammar_or_fault : HasGrammarOrFault
-grammar_or_fault bytes root no_grammar no_fault = neither bytes root no_grammar no_fault

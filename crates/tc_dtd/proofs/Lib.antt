@@ -15,6 +15,7 @@ pub mod DecidingPhrases
 pub mod DecidingNames
 pub mod DecidingContents
 pub mod DecidingTexts
+pub mod DecidingGrammars
 pub mod NumberLaws
 pub mod ReachLaws
 pub mod SizeLaws

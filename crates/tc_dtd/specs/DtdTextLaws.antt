@@ -52,8 +52,7 @@ HasOneGrammar = (ds : List Declaration) (root : List ℕ) (g h : Grammar) → Is
 abbrev pub HasDtdOrFault : Type 0
 HasDtdOrFault = (bytes : List ℕ) → ((ds : List Declaration) × DtdText bytes ds) ⊎ ((fault : DtdFault) × (IsRefusal fault × IsFaultOf bytes fault))
 
--- No text is without both a grammar, with this element as the document's, and a refusal; that none has both is said by the
--- clause on refusals. It is said by what would be absurd, since which elements are reached can't be read off this law: that `grammar` tells.
+-- and so any bytes have a grammar, with any element as the document's, or are refused
 abbrev pub HasGrammarOrFault : Type 0
-HasGrammarOrFault = (bytes root : List ℕ) → ((ds : List Declaration) (g : Grammar) → DtdText bytes ds → IsGrammarOfDtd ds root g → ⊥)
-    → ((fault : DtdFault) → IsRefusal fault → IsFaultOf bytes fault → ⊥) → ⊥
+HasGrammarOrFault = (bytes root : List ℕ) → ((ds : List Declaration) × ((g : Grammar) × (DtdText bytes ds × IsGrammarOfDtd ds root g)))
+    ⊎ ((fault : DtdFault) × (IsRefusal fault × IsFaultOf bytes fault))

@@ -1,7 +1,7 @@
 use Rattle.tc_dtd.proofs.FaultLaws.{one_dtd, lawful, one_refusal, no_dtd}
 use Rattle.tc_dtd.proofs.OneFault.{one_fault, one_grammar}
 use Rattle.tc_dtd.proofs.DecidingTexts.{dtd_or_fault}
-use Rattle.tc_dtd.proofs.EachText.{grammar_or_fault}
+use Rattle.tc_dtd.proofs.DecidingGrammars.{grammar_or_fault}
 use Rattle.tc_dtd.proofs.laws.law_of_dtd_texts.Goals as goal
 
 pub returns-clause-meaning : goal.returns-clause-meaning
