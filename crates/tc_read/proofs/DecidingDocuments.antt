@@ -11,14 +11,16 @@ use Rattle.tc_model.specs.XmlTextNames.{QNameAt}
 use Rattle.tc_model.specs.XmlTextMisc as m
 use Rattle.tc_model.specs.XmlTextMisc.{SettingAt, IsReadEncoding, EncodingAt, StandaloneAt, DeclarationAt, no_declaration, declaration, MiscAt, ExternalIdAt, DoctypeFrontAt, DoctypeAt, no_doctype, doctype}
 use Rattle.tc_model.specs.XmlTextRefusals as f
-use Rattle.tc_model.specs.XmlTextRefusals.{Cause, unsupported, too_deep, DeclarationRefuses, version, encoding, ElementRefuses, DocumentRefuses, subset, element, XmlTextRefuses}
+use Rattle.tc_model.specs.XmlTextRefusals.{Cause, unsupported, DeclarationRefuses, version, encoding, ElementRefuses, DocumentRefuses, subset, element, XmlTextRefuses}
 use Rattle.tc_model.specs.XmlTextScopes.{first_scope}
 use Rattle.tc_model.proofs.XmlTextPhrases.{same_first, same_others, qname_unique, literal_unique, setting_unique, encoding_unique, standalone_unique, declaration_unique, misc_unique, doctype_front_unique, doctype_unique}
 use Rattle.tc_model.proofs.XmlTextRefused.{whole_front, front_unique, front_same, start_same, declaration_no_declaration, subset_no_doctype, element_no_element, document_no_reading}
 use Rattle.tc_model.proofs.XmlTextUnique.{element_unique}
-use Rattle.tc_read.proofs.DecidingBytes.{Decided, bytes_are, begins, begins_with, same_after, some_white, literal_here, lacks_or, setting_here, read_encoding, standalone_here}
-use Rattle.tc_read.proofs.DecidingNames.{front_here, misc_here}
-use Rattle.tc_read.proofs.DecidingTags.{Known, qname_here}
+use Rattle.tc_sheet.proofs.DecidingBytes.{Decided, bytes_are, begins, begins_with, same_after, literal_here}
+use Rattle.tc_sheet.proofs.DecidingNames.{qname_here}
+use Rattle.tc_read.proofs.DecidingMisc.{front_here, misc_here}
+use Rattle.tc_read.proofs.DecidingSettings.{some_white, lacks_or, setting_here, read_encoding, standalone_here}
+use Rattle.tc_read.proofs.DecidingTags.{Known}
 use Rattle.tc_read.proofs.DecidingElements.{ElementHere, ElementStops, element_here}
 
 -- an XML declaration

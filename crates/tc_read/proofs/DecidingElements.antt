@@ -15,9 +15,10 @@ use Rattle.tc_model.proofs.XmlTextPhrases.{qname_unique, run_unique, same_others
 use Rattle.tc_model.proofs.XmlTextUnique.{tag_unique, content_unique, item_unique}
 use Rattle.tc_model.proofs.XmlTextRefused.{tag_no_tag, content_no_content, element_no_item, other_no_item}
 use Rattle.tc_xml.proofs.MiscLaws.{up_to_shorter}
-use Rattle.tc_read.proofs.DecidingBytes.{Decided, number_is, bytes_are, begins, begins_with, same_after, up_to}
-use Rattle.tc_read.proofs.DecidingNames.{by_length, comment_here, instruction_here}
-use Rattle.tc_read.proofs.DecidingTags.{Known, run_here, run_shorter, ReferenceHere, reference_here, reference_shorter, quoted_shorter, qname_here, qname_left}
+use Rattle.tc_sheet.proofs.DecidingBytes.{Decided, number_is, bytes_are, begins, begins_with, same_after, up_to}
+use Rattle.tc_sheet.proofs.DecidingNames.{by_length, qname_here}
+use Rattle.tc_read.proofs.DecidingMisc.{comment_here, instruction_here}
+use Rattle.tc_read.proofs.DecidingTags.{Known, run_here, run_shorter, ReferenceHere, reference_here, reference_shorter, quoted_shorter, qname_left}
 use Rattle.tc_read.proofs.DecidingStartTags.{white_left, equals_left, TagRead, TagStops, tag_here}
 
 -- character data, and a CDATA section

@@ -18,9 +18,10 @@ use Rattle.tc_model.specs.XmlTextScopes.{WrittenAttribute, is_empty, uri_of, is_
 use Rattle.tc_model.proofs.XmlTextPhrases.{qname_unique, quoted_unique, equals_unique, same_others}
 use Rattle.tc_model.proofs.XmlTextUnique.{attributes_unique, expands_unique, empty_is}
 use Rattle.tc_model.proofs.XmlTextRefused.{not_space, quoted_no_quoted, attributes_no_list}
-use Rattle.tc_read.proofs.DecidingBytes.{Decided, is_true, is_false, begins, some_white, equals_here}
-use Rattle.tc_read.proofs.DecidingNames.{by_length}
-use Rattle.tc_read.proofs.DecidingTags.{Known, QuotedHere, QuotedStops, quoted_here, quoted_shorter, qname_here, qname_left}
+use Rattle.tc_sheet.proofs.DecidingBytes.{Decided, is_true, is_false, begins}
+use Rattle.tc_sheet.proofs.DecidingNames.{by_length, qname_here}
+use Rattle.tc_read.proofs.DecidingSettings.{some_white, equals_here}
+use Rattle.tc_read.proofs.DecidingTags.{Known, QuotedHere, QuotedStops, quoted_here, quoted_shorter, qname_left}
 
 ends_tag : (bs : List ℕ) → Decided (EndsTag bs)
 ends_tag bs = elim (begins 0x3E bs) [

@@ -10,11 +10,12 @@ use Rattle.tc_model.specs.XmlTextNames.{NcNameAt, QualifiedName, QNameAt, unpref
 use Rattle.tc_model.specs.XmlTextReferences as r
 use Rattle.tc_model.specs.XmlTextReferences.{predefined, is_digit, EntityAt, ReferenceAt, decimal, hexadecimal, entity, other, is_plain_within, spaced, ValueAt, closed, plain, QuotedAt}
 use Rattle.tc_model.specs.XmlTextRefusals as f
-use Rattle.tc_model.specs.XmlTextRefusals.{OtherEntityAt, ValueRefuses, past_run, past_reference, QuotedRefuses, xml_space, AttributesRefuse, space, value, past_attribute, TagRefuses}
+use Rattle.tc_model.specs.XmlTextRefusals.{OtherEntityAt, ValueRefuses, past_run, past_reference, QuotedRefuses, value}
 use Rattle.tc_model.proofs.XmlTextPhrases.{ncname_unique, run_unique, reference_unique, reference_no_run, same_others, same_first}
 use Rattle.tc_model.proofs.XmlTextRefused.{as_reference, other_no_reference}
-use Rattle.tc_read.proofs.DecidingBytes.{Decided, is_true, begins, begins_with, same_after, some_bytes, quote_is}
-use Rattle.tc_read.proofs.DecidingNames.{by_length, ncname_here}
+use Rattle.tc_sheet.proofs.DecidingBytes.{Decided, is_true, begins, begins_with, same_after, quote_is}
+use Rattle.tc_sheet.proofs.DecidingNames.{by_length, ncname_here}
+use Rattle.tc_read.proofs.DecidingSettings.{some_bytes}
 
 -- read, or refused, or neither
 abbrev pub Known : Type 0 → Type 0 → Type 0
@@ -221,30 +222,6 @@ pub quoted_shorter : {o : Bool} {bs v after : List ℕ} → QuotedAt o bs v afte
 quoted_shorter a = let l = value_left a.closes in omega (arith, l, ap length a.opens)
 
 -- a qualified name
-abbrev pub QNameHere : List ℕ → Type 0
-QNameHere bs = (n : QualifiedName) × ((after : List ℕ) × QNameAt bs n after)
-
-pub qname_here : (bs : List ℕ) → QNameHere bs ⊎ (QNameHere bs → ⊥)
-qname_here bs = elim (ncname_here bs) [
-  | inr h ↦ inr (λ x. none h x.0 x.1.0 x.1.1)
-  | inl (n, (after, a)) ↦ elim (begins 0x3A after) [
-    | inr h ↦ inl (record { prefix = []; local = n }, (after, unprefixed a h))
-    | inl (rest, e) ↦ elim (ncname_here rest) [
-      | inl (local, (behind, b)) ↦ inl (record { prefix = n; local = local }, (behind, prefixed (subst (NcNameAt bs n) e a) b))
-      | inr h ↦ inr (λ x. no_local n after rest a e h x.0 x.1.0 x.1.1)
-    ]
-  ]
-]
-  where
-    none : ((name after : List ℕ) → NcNameAt bs name after → ⊥) → (n : QualifiedName) (after : List ℕ) → QNameAt bs n after → ⊥
-    none h n after (unprefixed {local = l} a k) = h l after a
-    none h n after (prefixed {prefix = p} {rest = rest} a b) = h p (0x3A ∷ rest) a
-
-    no_local : (n after rest : List ℕ) → NcNameAt bs n after → after ≡ 0x3A ∷ rest → ((name behind : List ℕ) → NcNameAt rest name behind → ⊥) → (m : QualifiedName) (behind : List ℕ) → QNameAt bs m behind → ⊥
-    no_local n after rest a e h m behind (unprefixed b k) = k rest ((ncname_unique b a).1 ∙ e)
-    no_local n after rest a e h m behind (prefixed {rest = z} {local = l} b c) =
-        h l behind (subst (λ y. NcNameAt y l behind) (same_others ((ncname_unique b a).1 ∙ e)) c)
-
 pub qname_left : {bs after : List ℕ} {n : QualifiedName} → QNameAt bs n after → length after ≤ length bs
 qname_left (unprefixed {local = l} {after = after} a k) = omega (arith, ap length a.parts, length-append l after)
 qname_left (prefixed {prefix = p} {rest = rest} {local = l} {after = after} a b) = omega (arith, ap length a.parts, length-append p (0x3A ∷ rest), ap length b.parts, length-append l after)

@@ -4,8 +4,8 @@ mod TextFaults
 mod RefusedTexts
 pub mod SchemaReasons
 pub mod SheetMeanings
-pub mod DecidingBytes
-pub mod DecidingNames
+pub mod DecidingSettings
+pub mod DecidingMisc
 pub mod DecidingTags
 pub mod DecidingStartTags
 pub mod DecidingElements

@@ -36,28 +36,32 @@ no_sheet bytes Loop k s x m = x
 no_sheet bytes BadStart k s x m = x
 no_sheet bytes BadExcept k s x m = x
 
-module _ (bytes : List ℕ) (no_reason : (r : Reason) (k : ℕ) → IsRefusedSheet bytes r k → ⊥) where
-  not_text : (r : Reason) (k : ℕ) → IsRefusedDocument bytes r k → ⊥
-  not_text Malformed k d = no_reason Malformed k (inl d)
-  not_text (Unsupported why) k d = no_reason (Unsupported why) k (inl d)
-  not_text TooDeep k d = no_reason TooDeep k (inl d)
-  not_text Undefined k d = d
-  not_text Twice k d = d
-  not_text Loop k d = d
-  not_text BadStart k d = d
-  not_text BadExcept k d = d
-  not_text CallLoop k d = d
+-- what is no text is refused as a stylesheet too
+not_text : (bytes : List ℕ) (r : Reason) (k : ℕ) → IsRefusedDocument bytes r k → (why : Reason) × ((at : ℕ) × IsRefusedSheet bytes why at)
+not_text bytes Malformed k d = (Malformed, (k, inl d))
+not_text bytes (Unsupported why) k d = (Unsupported why, (k, inl d))
+not_text bytes TooDeep k d = (TooDeep, (k, inl d))
+not_text bytes Undefined k d = absurd d
+not_text bytes Twice k d = absurd d
+not_text bytes Loop k d = absurd d
+not_text bytes BadStart k d = absurd d
+not_text bytes BadExcept k d = absurd d
+not_text bytes CallLoop k d = absurd d
 
-  not_refused : (raw : RawTrees) → XmlText bytes raw → (x : SheetFault) → IsRefusal x → IsCause raw x → ⊥
-  not_refused raw t (f.Malformed p) i c = no_reason Malformed p.0 (refused_tree bytes raw (f.Malformed p) t c)
-  not_refused raw t (f.Unsupported p why) i c = no_reason (Unsupported why) p.0 (refused_tree bytes raw (f.Unsupported p why) t c)
-  not_refused raw t (f.TooDeep p) i c = no_reason TooDeep p.0 (refused_tree bytes raw (f.TooDeep p) t c)
-  not_refused raw t (f.Undefined p) i c = no_reason Undefined p.0 (refused_tree bytes raw (f.Undefined p) t c)
-  not_refused raw t (f.CallLoop p) i c = no_reason CallLoop p.0 (refused_tree bytes raw (f.CallLoop p) t c)
-  not_refused raw t f.NoMemory i c = i
+-- the reason of a tree's cause
+reason_of_tree : (bytes : List ℕ) (raw : RawTrees) → XmlText bytes raw → (x : SheetFault) → IsRefusal x → IsCause raw x → (why : Reason) × ((at : ℕ) × IsRefusedSheet bytes why at)
+reason_of_tree bytes raw t (f.Malformed p) i c = (Malformed, (p.0, refused_tree bytes raw (f.Malformed p) t c))
+reason_of_tree bytes raw t (f.Unsupported p why) i c = (Unsupported why, (p.0, refused_tree bytes raw (f.Unsupported p why) t c))
+reason_of_tree bytes raw t (f.TooDeep p) i c = (TooDeep, (p.0, refused_tree bytes raw (f.TooDeep p) t c))
+reason_of_tree bytes raw t (f.Undefined p) i c = (Undefined, (p.0, refused_tree bytes raw (f.Undefined p) t c))
+reason_of_tree bytes raw t (f.CallLoop p) i c = (CallLoop, (p.0, refused_tree bytes raw (f.CallLoop p) t c))
+reason_of_tree bytes raw t f.NoMemory i c = absurd i
 
 pub sheet_or_reason : HasSheetOrReason
-sheet_or_reason bytes none_spelled no_reason = elim (raw_tree_or_reason bytes) [
-  | inl (raw, t) ↦ sheet_or_cause raw (reads_element t) (λ s m. none_spelled s (record { raw = raw; text = t; means = m })) (not_refused bytes no_reason raw t)
-  | inr (r, (k, x)) ↦ not_text bytes no_reason r k x
+sheet_or_reason bytes = elim (raw_tree_or_reason bytes) [
+  | inr (r, (k, x)) ↦ inr (not_text bytes r k x)
+  | inl (raw, t) ↦ elim (sheet_or_cause raw (reads_element t)) [
+    | inl (s, m) ↦ inl (s, record { raw = raw; text = t; means = m })
+    | inr (x, (i, c)) ↦ inr (reason_of_tree bytes raw t x i c)
+  ]
 ]

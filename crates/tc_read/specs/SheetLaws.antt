@@ -1,5 +1,5 @@
 -- Laws of stylesheets: which texts are refused.
-use Rattle.std.specs.Prelude.{ℕ, List}
+use Rattle.std.specs.Prelude.{◌⊎◌, ℕ, List}
 use Rattle.tc_model.specs.Sheets.{Sheet}
 use Rattle.tc_read.specs.Refusals.{IsRefusedSheet}
 use Rattle.tc_read.specs.Sheets.{IsSheetOf}
@@ -9,7 +9,6 @@ use Rattle.tc_read.specs.declared.faults.Reason.{Reason}
 abbrev pub HasNoSheet : Type 0
 HasNoSheet = (bytes : List ℕ) (r : Reason) (k : ℕ) (s : Sheet) → IsRefusedSheet bytes r k → IsSheetOf bytes s → ⊥
 
--- No text is without both a stylesheet and a reason. So, by the law before, each has one of them. It is said by what would be absurd, since which of them a
--- text has can't be read off this law: that `read_sheet` tells.
+-- each text spells a stylesheet, or is refused for some reason at some place
 abbrev pub HasSheetOrReason : Type 0
-HasSheetOrReason = (bytes : List ℕ) → ((s : Sheet) → IsSheetOf bytes s → ⊥) → ((r : Reason) (k : ℕ) → IsRefusedSheet bytes r k → ⊥) → ⊥
+HasSheetOrReason = (bytes : List ℕ) → ((s : Sheet) × IsSheetOf bytes s) ⊎ ((r : Reason) × ((k : ℕ) × IsRefusedSheet bytes r k))

@@ -50,8 +50,8 @@ pub fn read_sheet<'b>(arena: &'b Bump, text: &[u8]) -> Result<Sheet<'b>, TextFau
     Ok(sheet)
 }
 
-/// Laws of the texts of stylesheets: none is without both a stylesheet that it spells and a
-/// reason for which it is refused, and none has both.
+/// Laws of the texts of stylesheets: each spells a stylesheet or is refused for some reason, and
+/// none does both.
 pub fn law_of_stylesheets()
     ensures none { HasNoSheet }
     ensures some { HasSheetOrReason }

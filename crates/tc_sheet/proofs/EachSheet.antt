@@ -1,8 +1,7 @@
--- A raw tree means a stylesheet, or it has a cause for which it is refused, and not both.
-use Rattle.std.proofs.Common.{◌≡◌, ◌⊎◌, inl, inr, ℕ, Bool, true, false, List, [], ◌∷◌, ◌++◌, refl, ap, ◌∙◌, sym, subst, Option, None, Some, All, append_assoc, append-nil}
+-- A raw tree means a stylesheet, or it has a cause for which it is refused, and not both: which, is decided by reading it.
+use Rattle.std.proofs.Common.{◌≡◌, ◌⊎◌, inl, inr, ℕ, Bool, true, false, List, [], ◌∷◌, ◌++◌, refl, ap, ◌∙◌, sym, subst, Option, None, Some, append_assoc, append-nil}
 use Rattle.std.specs.Prelude.{filter}
 use Rattle.std.specs.List.{IsDistinct, list_any}
-use Rattle.std.proofs.lemmas.List.Elements.{All-nil, All-cons, All-head, All-tail}
 use Rattle.tc_base.specs.declared.reasons.Why.{Why}
 use Rattle.tc_base.specs.declared.reasons.Why.TheVariants.{Arithmetic, VariableReference, StringLiteral}
 use Rattle.tc_model.specs.Names.{ExpandedName, same_name}
@@ -12,13 +11,13 @@ use Rattle.tc_model.specs.PathText.{Forms}
 use Rattle.tc_model.specs.Sheets.{Sheet}
 use Rattle.tc_model.specs.SheetTextTrees.{Template, is_used}
 use Rattle.tc_model.specs.SheetTextPhrases.{Tag, tag, value_of, IsStylesheet}
-use Rattle.tc_model.specs.SheetText.{one_name, names_of, sheet_of, IsDefined, IsUndefined, IsLoop, StandingCall, calls_of, SheetText, IsFirst, of_undefined, of_loop}
+use Rattle.tc_model.specs.SheetText.{one_name, names_of, sheet_of, IsDefined, IsUndefined, IsLoop, StandingCall, calls_of, SheetText, of_undefined, of_loop}
 use Rattle.tc_model.proofs.PathTextLexing.{tokens_unique}
 use Rattle.tc_model.proofs.SheetTextUnique.{no_sheet}
 use Rattle.tc_path.specs.Faults.{Deep}
 use Rattle.tc_path.specs.Contexts.{Context}
 use Rattle.tc_path.specs.Reasons.{first_from, first_reason, reason_at, within, behind, brackets_behind, or_else, Renamed, no_more, as_it_is, a_number, a_literal, a_variable}
-use Rattle.tc_sheet.specs.Changes.{Change, mended, flattened, both, TakesAway, IsRenamed, ChangedAttributes, no_attribute, an_exchange, Changed, no_tree, a_text, an_element}
+use Rattle.tc_sheet.specs.Changes.{mended, flattened, both, IsRenamed, ChangedAttributes, no_attribute, an_exchange, Changed, no_tree, a_text, an_element}
 use Rattle.tc_sheet.specs.Changes as changes
 use Rattle.tc_sheet.specs.Constructs.{Form, select, value, pattern, test, context_of, HasForm, MustHave, in_path, of_reason}
 use Rattle.tc_sheet.specs.Faults.{IsNoneWith, IsCause}
@@ -28,6 +27,12 @@ use Rattle.tc_sheet.specs.Tables.{IsNamedAgain}
 use Rattle.tc_sheet.specs.declared.faults.SheetFault.{SheetFault}
 use Rattle.tc_sheet.specs.declared.faults.SheetFault.TheVariants.{Malformed, Unsupported, TooDeep, Undefined, CallLoop, NoMemory}
 use Rattle.tc_sheet.proofs.Changes.{as_they_are}
+use Rattle.tc_sheet.proofs.DecidingAttributes.{is_not}
+use Rattle.tc_sheet.proofs.DecidingBodies.{stylesheet_here}
+use Rattle.tc_sheet.proofs.DecidingBytes.{Decided}
+use Rattle.tc_sheet.proofs.DecidingCalls.{same_name_here, loop_here}
+use Rattle.tc_sheet.proofs.DecidingItems.{LookedAtHere, looked_at_here, reads_deep_here, IsRefusedItem, refused_here}
+use Rattle.tc_sheet.proofs.DecidingLists.{contains_here, first_here, all_so}
 use Rattle.tc_sheet.proofs.DeepForms.{renamed_deep, ReadsDeep, stylesheet_none}
 use Rattle.tc_sheet.proofs.LessChanged.{LessAttributes, less_none, less_same, less_other, Less, less_end, less_text, less_element, stylesheet_less}
 use Rattle.tc_sheet.proofs.NamedAgain.{not_once, names_append}
@@ -43,21 +48,6 @@ no_sheet_with_cause raw (TooDeep p) s i a t = a.1 raw t.templates (as_they_are m
 no_sheet_with_cause raw (Undefined p) s i a t = no_sheet raw _ _ s a t
 no_sheet_with_cause raw (CallLoop p) s i a t = no_sheet raw _ _ s a t
 no_sheet_with_cause raw NoMemory s i a t = i
-
--- a list has a first that is so, or none is
-first_or_none : {X : Type 0} (P : X → Type 0) (xs : List X) → (All (λ x. P x → ⊥) xs → ⊥) → ((x : X) → IsFirst P xs x → ⊥) → ⊥
-first_or_none P [] not_all some = not_all (All-nil (λ x. P x → ⊥))
-first_or_none {X} P (x ∷ xs) not_all some = first_or_none P xs (λ a. not_all (All-cons (λ x. P x → ⊥) x xs none_here a)) (λ y f. some y (behind_it y f))
-  where
-    none_here : P x → ⊥
-    none_here h = some x (record { before = []; after = xs; parts = refl; not_before = All-nil (λ x. P x → ⊥); holds = h })
-
-    behind_it : (y : X) → IsFirst P xs y → IsFirst P (x ∷ xs) y
-    behind_it y f = record { before = x ∷ f.before; after = f.after; parts = ap (λ w. x ∷ w) f.parts; not_before = All-cons (λ x. P x → ⊥) x f.before none_here f.not_before; holds = f.holds }
-
-all_so : {X : Type 0} (P : X → Type 0) (xs : List X) → All (λ x. (P x → ⊥) → ⊥) xs → (All P xs → ⊥) → ⊥
-all_so P [] a not_all = not_all (All-nil P)
-all_so P (x ∷ xs) a not_all = All-head (λ x. (P x → ⊥) → ⊥) x xs a (λ h. all_so P xs (All-tail (λ x. (P x → ⊥) → ⊥) x xs a) (λ b. not_all (All-cons P x xs h b)))
 
 -- names of templates are different, or there is a first that comes again
 abbrev ComesAgain : List Template → Template → Type 0
@@ -157,6 +147,9 @@ deep_is (of_root t) d = absurd d
 deep_is (of_element t) d = absurd d
 deep_is (of_attribute t a) d = (d.form, d.must, d.deep)
 
+abbrev SheetOrCauseOf : RawTrees → Type 0
+SheetOrCauseOf raw = ((s : Sheet) × SheetText raw s) ⊎ ((x : SheetFault) × (IsRefusal x × IsCause raw x))
+
 module _ (n : ExpandedName) (olds : List Attribute) (scope : List Bound) (q : ℕ) (kids : RawTrees) where
   abbrev raw : RawTrees
   raw = element n olds scope q kids none
@@ -164,54 +157,68 @@ module _ (n : ExpandedName) (olds : List Attribute) (scope : List Bound) (q : �
   abbrev root : Item
   root = of_root (tag n olds scope q)
 
-  module _ (no_sheet_means : (s : Sheet) → SheetText raw s → ⊥) (no_cause : (x : SheetFault) → IsRefusal x → IsCause raw x → ⊥) where
-    unread_calls : (ts : List Template) → IsStylesheet raw ts → IsDistinct same_name (names_of ts) → ⊥
-    unread_calls ts w d =
-        let used = filter is_used ts in
-        first_or_none (IsUndefined used) (calls_of used)
-        (λ a. all_so (λ (c : StandingCall). IsDefined used c.call) (calls_of used) a
-        (λ b. first_or_none (IsLoop used) (calls_of used)
-        (λ f. no_sheet_means (sheet_of used) (record { templates = ts; written = w; once = d; defined = b; no_loop = f; means = refl }))
-        (λ c f. no_cause (CallLoop (record { 0 = c.call.place })) tt (of_loop w d b f))))
-        (λ c f. no_cause (Undefined (record { 0 = c.call.place })) tt (of_undefined w d f))
+  abbrev SheetOrCause : Type 0
+  SheetOrCause = SheetOrCauseOf raw
 
-    unwritten : (ts : List Template) → IsStylesheet raw ts → ⊥
-    unwritten ts w = by (once_or_again [] ts nothing_twice)
-      where
-        by : OnceOrAgain ts → ⊥
-        by (inl d) = unread_calls ts w d
-        by (inr (p, a)) = no_cause (Malformed (record { 0 = p })) tt (twice_cause raw w (Malformed (record { 0 = p })) a)
+  -- a stylesheet but for its calls
+  read_calls : (ts : List Template) → IsStylesheet raw ts → IsDistinct same_name (names_of ts) → SheetOrCause
+  read_calls ts w d =
+      let used = filter is_used ts in
+      let defined_here : (c : StandingCall) → Decided (IsDefined used c.call) = λ c. contains_here same_name_here (names_of used) c.call.name in
+      elim (first_here (IsUndefined used) (λ c. is_not (defined_here c)) (calls_of used)) [
+        | inl (c, f) ↦ inr (Undefined (record { 0 = c.call.place }), (tt, of_undefined w d f))
+        | inr a ↦ let b = all_so (λ (c : StandingCall). IsDefined used c.call) defined_here (calls_of used) a in elim (first_here (IsLoop used) (loop_here used) (calls_of used)) [
+          | inl (c, f) ↦ inr (CallLoop (record { 0 = c.call.place }), (tt, of_loop w d b f))
+          | inr e ↦ inl (sheet_of used, record { templates = ts; written = w; once = d; defined = b; no_loop = e; means = refl })
+        ]
+      ]
 
-    -- nothing that is read nests too deep, so the tree none_here a stylesheet once it is flattened
-    unread_deep : (x : Item) → IsLookedAt raw x → ReadsDeep x → ⊥
-    unread_deep x g d =
-        no_cause (TooDeep (record { 0 = place_of x })) tt
-        (record { item = x; has = g; holds = deep_is x d; stands = refl }, λ changed ts c w. stylesheet_none g d c w)
+  read_names : (ts : List Template) → IsStylesheet raw ts → SheetOrCause
+  read_names ts w = by (once_or_again [] ts nothing_twice)
+    where
+      by : OnceOrAgain ts → SheetOrCause
+      by (inl d) = read_calls ts w d
+      by (inr (p, a)) = inr (Malformed (record { 0 = p }), (tt, twice_cause raw w (Malformed (record { 0 = p })) a))
 
-    none_flattened : IsNoneWith flattened raw
-    none_flattened changed ts c w =
-        let (l, y, v) = stylesheet_less flattened (λ s t. Deep s) (λ s t. ⊥) (λ s t x. inl x) (λ x. ReadsDeep x → ⊥) (λ t fine h. h)
-        (λ t a f fine first must Q s d m. absurd (fine (record { form = f; must = must; first = first; deep = d }))) n olds scope q kids unread_deep c w in
-        unwritten ts (subst (λ h. IsStylesheet h ts) (sym (as_it_stands y)) v)
+  module _ (unread : (ts : List Template) → IsStylesheet raw ts → ⊥) where
+    -- something that is read nests too deep
+    too_deep : (x : Item) → IsLookedAt raw x → ReadsDeep x → SheetOrCause
+    too_deep x g d = inr (TooDeep (record { 0 = place_of x }), (tt, (record { item = x; has = g; holds = deep_is x d; stands = refl }, λ changed ts c w. stylesheet_none g d c w)))
 
-    -- and no reason of its own refuses anything, so it is none with both changes
-    unrefused : (x : Item) → IsLookedAt raw x → IsUnrefused x
-    unrefused x g why r = no_cause (Unsupported (record { 0 = place_of x }) why) tt (record { item = x; has = g; holds = r; stands = refl }, none_flattened)
+    module _ (no_deep : (x : Item) → IsLookedAt raw x → ReadsDeep x → ⊥) where
+      -- nothing does, so the tree is none once it is flattened
+      none_flattened : IsNoneWith flattened raw
+      none_flattened changed ts c w =
+          let (l, y, v) = stylesheet_less flattened (λ s t. Deep s) (λ s t. ⊥) (λ s t x. inl x) (λ x. ReadsDeep x → ⊥) (λ t fine h. h)
+          (λ t a f fine first must Q s d m. absurd (fine (record { form = f; must = must; first = first; deep = d }))) n olds scope q kids no_deep c w in
+          unread ts (subst (λ h. IsStylesheet h ts) (sym (as_it_stands y)) v)
 
-    none_with_both : IsNoneWith both raw
-    none_with_both changed ts c w =
-        let (l, y, v) = stylesheet_less both IsRenamed (λ s t. Deep s) (λ s t x. x) IsUnrefused (λ t fine h. fine h.0 (of_reason h.1)) renamed_reads n olds scope q kids unrefused c w in
-        none_flattened l ts (flat y) v
+      -- no reason of its own refuses anything, so it is none with both changes
+      none_with_both : ((x : Item) → IsLookedAt raw x → IsUnrefused x) → IsNoneWith both raw
+      none_with_both unrefused changed ts c w =
+          let (l, y, v) = stylesheet_less both IsRenamed (λ s t. Deep s) (λ s t x. x) IsUnrefused (λ t fine h. fine h.0 (of_reason h.1)) renamed_reads n olds scope q kids unrefused c w in
+          none_flattened l ts (flat y) v
 
-    neither : ⊥
-    neither =
-        no_cause (Malformed (record { 0 = q })) tt
-        (record { item = root; has = the_root; holds = unrefused root the_root; stands = refl }, λ changed ts c w. absurd (none_with_both changed ts c w))
+      refused_by : LookedAtHere IsRefusedItem refused_here raw → SheetOrCause
+      refused_by (inl (x, (g, (why, r)))) = inr (Unsupported (record { 0 = place_of x }) why, (tt, (record { item = x; has = g; holds = r; stands = refl }, none_flattened)))
+      refused_by (inr h) =
+          let unrefused : (x : Item) → IsLookedAt raw x → IsUnrefused x = λ x g why r. h x g (why, r) in
+          inr (
+            Malformed (record { 0 = q }),
+            (tt, (record { item = root; has = the_root; holds = unrefused root the_root; stands = refl }, λ changed ts c w. absurd (none_with_both unrefused changed ts c w))),
+          )
 
-abbrev NeverNeither : RawTrees → Type 0
-NeverNeither raw = ((s : Sheet) → SheetText raw s → ⊥) → ((x : SheetFault) → IsRefusal x → IsCause raw x → ⊥) → ⊥
+    unread_by : LookedAtHere ReadsDeep reads_deep_here raw → SheetOrCause
+    unread_by (inl (x, (g, d))) = too_deep x g d
+    unread_by (inr h) = refused_by h (looked_at_here IsRefusedItem refused_here n olds scope q kids)
+
+  read_or_refused : SheetOrCause
+  read_or_refused = elim (stylesheet_here n olds scope q kids) [
+    | inl (ts, w) ↦ read_names ts w
+    | inr h ↦ unread_by h (looked_at_here ReadsDeep reads_deep_here n olds scope q kids)
+  ]
 
 pub sheet_or_cause : HasSheetOrCause
 sheet_or_cause none i = absurd i
 sheet_or_cause (text s q rest) i = absurd i
-sheet_or_cause (element n olds scope q kids rest) i = subst (λ h. NeverNeither (element n olds scope q kids h)) (sym i) (λ h k. neither n olds scope q kids h k)
+sheet_or_cause (element n olds scope q kids rest) i = subst (λ h. SheetOrCauseOf (element n olds scope q kids h)) (sym i) (read_or_refused n olds scope q kids)

@@ -38,3 +38,14 @@ pub mod PutLaws
 pub mod LessChanged
 pub mod DeepForms
 pub mod EachSheet
+pub mod DecidingBytes
+pub mod DecidingNames
+pub mod DecidingTokens
+pub mod DecidingNodeTests
+pub mod DecidingPaths
+pub mod DecidingForms
+pub mod DecidingAttributes
+pub mod DecidingBodies
+pub mod DecidingLists
+pub mod DecidingItems
+pub mod DecidingCalls

@@ -114,7 +114,7 @@ module _ (scope : List Bound) {text : List ℕ} {n : QualifiedName} (is : QNameA
   element_nothing e f m a = no_element e f (subst (λ q. ElementName scope q m) (qname_unique a.is_name is).0 a.means)
 
 -- the `select` of an `xsl:copy-of`
-attributes_alternative : {scope : List Bound} {ts after : List Token} → p.AttributesAlternativeAt scope ts after → (ss : _) × p.AlternativeAt scope ts ss p.dropped after
+pub attributes_alternative : {scope : List Bound} {ts after : List Token} → p.AttributesAlternativeAt scope ts after → (ss : _) × p.AlternativeAt scope ts ss p.dropped after
 attributes_alternative (p.attributes_of_children {ss = ss} a) = (ss, p.from_children a)
 attributes_alternative (p.attributes_of_descendants {ss = ss} a) = (ss, p.from_descendants a)
 

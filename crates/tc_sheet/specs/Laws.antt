@@ -1,5 +1,5 @@
 -- Laws of stylesheets that are read.
-use Rattle.std.specs.Prelude.{ℕ}
+use Rattle.std.specs.Prelude.{◌⊎◌, ℕ}
 use Rattle.tc_model.specs.RawTrees.{RawTrees, IsOneElement}
 use Rattle.tc_model.specs.Sheets.{Sheet}
 use Rattle.tc_model.specs.SheetText.{SheetText}
@@ -26,7 +26,6 @@ IsRefusal NoMemory = ⊥
 abbrev pub HasNoSheetWithCause : Type 0
 HasNoSheetWithCause = (raw : RawTrees) (x : SheetFault) (s : Sheet) → IsRefusal x → IsCause raw x → SheetText raw s → ⊥
 
--- No tree of one element is without both a stylesheet and such a cause. So, by the law before, each has one of them. It is said by what would be absurd, since
--- which of them a tree has can't be read off this law: that `read_sheet` tells.
+-- each tree of one element means a stylesheet, or has such a cause
 abbrev pub HasSheetOrCause : Type 0
-HasSheetOrCause = (raw : RawTrees) → IsOneElement raw → ((s : Sheet) → SheetText raw s → ⊥) → ((x : SheetFault) → IsRefusal x → IsCause raw x → ⊥) → ⊥
+HasSheetOrCause = (raw : RawTrees) → IsOneElement raw → ((s : Sheet) × SheetText raw s) ⊎ ((x : SheetFault) × (IsRefusal x × IsCause raw x))
