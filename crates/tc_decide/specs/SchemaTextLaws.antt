@@ -1,14 +1,13 @@
 -- Each text of a schema is accepted or refused, and none is both.
-use Rattle.std.specs.Prelude.{ℕ}
+use Rattle.std.specs.Prelude.{◌⊎◌, ℕ}
 use Rattle.tc_decide.specs.Texts.{Spells, IsRefused}
 use Rattle.tc_decide.specs.declared.schemas.SchemaText.{SchemaText}
 use Rattle.tc_model.specs.Grammars.{Grammar}
 use Rattle.tc_read.specs.declared.faults.Reason.{Reason}
 
--- No text is without both a grammar that it spells and a reason for which it is refused. It is said so, by what would be absurd, since which of them a text
--- has can't be read off this law: that each call tells.
+-- each text spells a grammar, or is refused for some reason at some place
 abbrev pub EachIsSpelledOrRefused : Type 0
-EachIsSpelledOrRefused = (text : SchemaText) → ((g : Grammar) → Spells text g → ⊥) → ((reason : Reason) (place : ℕ) → IsRefused text reason place → ⊥) → ⊥
+EachIsSpelledOrRefused = (text : SchemaText) → ((g : Grammar) × Spells text g) ⊎ ((reason : Reason) × ((place : ℕ) × IsRefused text reason place))
 
 -- and a text that is refused spells none
 abbrev pub NoneIsBoth : Type 0
