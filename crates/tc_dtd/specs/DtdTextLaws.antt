@@ -52,7 +52,7 @@ HasOneGrammar = (ds : List Declaration) (root : List ℕ) (g h : Grammar) → Is
 abbrev pub HasDtdOrFault : Type 0
 HasDtdOrFault = (bytes : List ℕ) → ((ds : List Declaration) × DtdText bytes ds) ⊎ ((fault : DtdFault) × (IsRefusal fault × IsFaultOf bytes fault))
 
--- and so any bytes have a grammar, with any element as the document's, or are refused
+-- any bytes have a grammar, with any root, or are refused
 abbrev pub HasGrammarOrFault : Type 0
 HasGrammarOrFault = (bytes root : List ℕ) → ((ds : List Declaration) × ((g : Grammar) × (DtdText bytes ds × IsGrammarOfDtd ds root g)))
     ⊎ ((fault : DtdFault) × (IsRefusal fault × IsFaultOf bytes fault))

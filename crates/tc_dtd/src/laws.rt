@@ -4,7 +4,7 @@ ghost use Rattle.tc_dtd.specs.DtdTextLaws.{HasOneDtd, HasLawfulDtd, HasOneRefusa
 /// Laws of the texts of document type definitions: a text has one meaning at most, which is lawful, or one refusal at
 /// most, and never both. So `read_dtd` is Ok exactly where there is a meaning, but for want of memory. It is refused for
 /// one fault, but that the place of malformed is left open; and a meaning has one grammar at most. Each text
-/// has a meaning or a refusal; with any element as the document's, it has a grammar or a refusal.
+/// has a meaning or a refusal; with any root, it has a grammar or a refusal.
 pub fn law_of_dtd_texts()
     ensures meaning { HasOneDtd }
     ensures lawful { HasLawfulDtd }

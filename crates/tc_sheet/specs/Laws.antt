@@ -22,10 +22,10 @@ IsRefusal (Undefined p) = Unit {0}
 IsRefusal (CallLoop p) = Unit {0}
 IsRefusal NoMemory = ⊥
 
--- a tree that has a cause to be refused means no stylesheet
+-- a tree that has a cause to be refused spells no stylesheet
 abbrev pub HasNoSheetWithCause : Type 0
 HasNoSheetWithCause = (raw : RawTrees) (x : SheetFault) (s : Sheet) → IsRefusal x → IsCause raw x → SheetText raw s → ⊥
 
--- each tree of one element means a stylesheet, or has such a cause
+-- each tree of one element spells a stylesheet, or has such a cause
 abbrev pub HasSheetOrCause : Type 0
 HasSheetOrCause = (raw : RawTrees) → IsOneElement raw → ((s : Sheet) × SheetText raw s) ⊎ ((x : SheetFault) × (IsRefusal x × IsCause raw x))

@@ -100,7 +100,7 @@ pub fn read_sheet<'b>(arena: &'b Bump, raw: &Raw<'b>) -> Result<Sheet<'b>, Sheet
 
 /// Laws of stylesheets that are read. The stylesheet of a tree whose names and texts are lawful, as
 /// `law_of_xml_texts` says of the trees of XML texts, is well-formed. `law_of_sheet_texts` says that a tree has at
-/// most one. Each tree of one element means a stylesheet or has a cause for which it is refused, and none has both.
+/// most one. Each tree of one element spells a stylesheet or has a cause for which it is refused, and none does both.
 pub fn law_of_sheets()
     ensures lawful { HasLawfulSheet }
     ensures none { HasNoSheetWithCause }
