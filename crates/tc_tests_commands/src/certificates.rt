@@ -439,6 +439,35 @@ const UNFOLDING: Text<'static> = &[
     Once("hedges 0\nend\n"),
 ];
 
+/// Two rows of trees with 5,684,991 numbers each, of which none is that of the other row.
+const ZEROS_AND_ONES: Text<'static> = &[
+    Once("xslt-typecheck certificate 1\noutputs 0\ntrees 2\nt 0 0 10 0"),
+    Times(",0", 5_684_990),
+    Once(" -\nt 0 0 10 1"),
+    Times(",1", 5_684_990),
+    Once(" -\nhedges 0\nend\n"),
+];
+
+/// The same in version 2, which tells the place of each number of the second row: 67,108,864 bytes. The zeros of the first row and
+/// their commas have 11,369,980, `,#:1` without its place 17,054,970, the places from 1 have 9 + 2 * 90 + .. + 6 * 900,000 +
+/// 7 * 4,684,991 = 38,683,826, and what is left 88.
+const LONGEST: Text<'static> = &[
+    Once("xslt-typecheck certificate 2\noutputs 0\ntrees 2\nt 0 0 10 0"),
+    Times(",0", 5_684_990),
+    Once(" -\nT 0 0 10 0:1"),
+    Each(",#:1", 1, 5_684_990),
+    Once(" -\nhedges 0\nend\n"),
+];
+
+/// The rows again, with one byte more in either version: the element pattern 100 in place of 10.
+const TOO_LONG: Text<'static> = &[
+    Once("xslt-typecheck certificate 1\noutputs 0\ntrees 2\nt 0 0 10 0"),
+    Times(",0", 5_684_990),
+    Once(" -\nt 0 0 100 1"),
+    Times(",1", 5_684_990),
+    Once(" -\nhedges 0\nend\n"),
+];
+
 /// Any number of times 51 `b`.
 const MANY_B: Text<'static> = &[
     Once("b = element b{empty} start = element a{(b"),
@@ -454,7 +483,7 @@ const MANY_X: Text<'static> = &[
 ];
 
 /// Large certificates and triples of many rows.
-static LARGE: [Case<'static>; 3] = [
+static LARGE: [Case<'static>; 5] = [
     Case {
         what: "rows are not unfolded before they fit",
         words: VERIFY,
@@ -468,6 +497,20 @@ static LARGE: [Case<'static>; 3] = [
         files: &[("I", B), ("O", X), ("S", S), ("C", UNFOLDING)],
         status: Status::Yes,
         text: UNFOLDING,
+    },
+    Case {
+        what: "a text of the greatest length is written anew",
+        words: UPGRADE,
+        files: &[("C", ZEROS_AND_ONES)],
+        status: Status::Yes,
+        text: LONGEST,
+    },
+    Case {
+        what: "a longer one is not",
+        words: UPGRADE,
+        files: &[("C", TOO_LONG)],
+        status: Status::Limit,
+        text: &[Once("limit certificate 67108864\n")],
     },
     Case {
         what: "many rows pass the limit",

@@ -304,6 +304,121 @@ const CALL: Part<'static> = Once(
     "<xsl:template match=\"/\"><xsl:call-template name=\"n1\"/></xsl:template>",
 );
 
+/// Nine elements one after the other, each an `x` or a `y` of its place.
+const OF_NINE: Text<'static> = &[
+    Once("start = d d = element d{(x1|y1)"),
+    Each(",(x#|y#)", 2, 9),
+    Once("}"),
+    Each(" x# = element x#{empty} y# = element y#{empty}", 1, 9),
+];
+
+/// The root has nothing in it, or elements none of which has one of 39 names: so a list's set of pairs tells which of these names
+/// stand in it, and whether it is empty.
+const WITHOUT_ONE: Text<'static> = &[
+    Once("start = r r = element r{empty"),
+    Each("|nx#*|ny#*", 1, 9),
+    Each("|nu#*", 1, 16),
+    Each("|nv#*", 1, 2),
+    Each("|nw#*", 1, 3),
+    Once("}"),
+    Each(" nx# = element *-x#{empty} ny# = element *-y#{empty}", 1, 9),
+    Each(" nu# = element *-u#{empty}", 1, 16),
+    Each(" nv# = element *-v#{empty}", 1, 2),
+    Each(" nw# = element *-w#{empty}", 1, 3),
+];
+
+/// Copies of all elements, with marks, in a mode for each of 16 numbers.
+const FIRST_MODES: Part<'static> = Each(
+    "<xsl:template match='*' mode='a#'><xsl:copy/><u#/></xsl:template>",
+    1,
+    16,
+);
+
+const SECOND_MODES: Part<'static> = Each(
+    "<xsl:template match='*' mode='b#'><xsl:copy/><u#/><v1/></xsl:template>",
+    1,
+    16,
+);
+
+const THIRD_MODES: Part<'static> = Each(
+    "<xsl:template match='*' mode='c#'><xsl:copy/><u#/><v2/></xsl:template>",
+    1,
+    16,
+);
+
+/// Of 15 numbers.
+const LAST_MODES: Part<'static> = Each(
+    "<xsl:template match='*' mode='d#'><xsl:copy/><u#/><v1/><v2/></xsl:template>",
+    1,
+    15,
+);
+
+/// Copies of the elements of the first five places alone, and of the first two.
+const FEWER: Part<'static> = Once(
+    "<xsl:template match='/'><r/></xsl:template><xsl:template match='*' mode='w1'/>\
+    <xsl:template match='x1|y1|x2|y2|x3|y3|x4|y4|x5|y5' mode='w1'><xsl:copy/><w1/></xsl:template>\
+    <xsl:template match='*' mode='w2'/>\
+    <xsl:template match='x1|y1|x2|y2' mode='w2'><xsl:copy/><w2/></xsl:template>",
+);
+
+/// Copies of `x1` alone.
+const ONE_COPY: Part<'static> = Once(
+    "<xsl:template match='*' mode='w3'/>\
+    <xsl:template match='x1' mode='w3'><xsl:copy/><w3/></xsl:template>",
+);
+
+/// As many sets of pairs as may be, and one more. Rows are those of 18 trees and of `d`, and of 1 + 2 + .. + 512 lists of the first
+/// places. In each of 63 modes a list that isn't empty has a set of its own, each tree too unless it stands at the first place, and
+/// `d`: 63 * (1,022 + 16 + 1) = 65,457. In mode `w1` there are 2 + 4 + .. + 32 and 8, in `w2` 2 + 4 and 2, and one is that of
+/// nothing: 65,536. Mode `w3` adds that of `x1`.
+static SETS: [Case<'static>; 2] = [
+    Case {
+        what: "65,536 sets of pairs",
+        words: PLAIN,
+        files: &[
+            ("I", OF_NINE),
+            ("O", WITHOUT_ONE),
+            (
+                "S",
+                &[
+                    FRONT,
+                    FEWER,
+                    FIRST_MODES,
+                    SECOND_MODES,
+                    THIRD_MODES,
+                    LAST_MODES,
+                    BACK,
+                ],
+            ),
+        ],
+        status: Status::Yes,
+        text: &[Once("safe trees 19 hedges 1023 outputs 65536\n")],
+    },
+    Case {
+        what: "one more",
+        words: PLAIN,
+        files: &[
+            ("I", OF_NINE),
+            ("O", WITHOUT_ONE),
+            (
+                "S",
+                &[
+                    FRONT,
+                    FEWER,
+                    FIRST_MODES,
+                    SECOND_MODES,
+                    THIRD_MODES,
+                    LAST_MODES,
+                    ONE_COPY,
+                    BACK,
+                ],
+            ),
+        ],
+        status: Status::Limit,
+        text: &[Once("limit outputs 65536\n")],
+    },
+];
+
 /// Limits that are told.
 static LIMITS: [Case<'static>; 5] = [
     Case {
@@ -463,6 +578,7 @@ static TOO_LARGE: [Case<'static>; 2] = [
 #[test]
 fn limits_are_told_and_large_results_are_not_shown(rt: HostRuntime) -> Result<(), Fail> {
     assert_cases(&rt, rt.alloc(), &LIMITS)?;
+    assert_cases(&rt, rt.alloc(), &SETS)?;
     assert_cases(&rt, rt.alloc(), &TOO_LARGE)
 }
 
