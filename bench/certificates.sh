@@ -19,14 +19,18 @@ verify_all() {
     # shellcheck disable=SC2086
     make_triple $name
     texts="$triple/I $triple/O $triple/S"
+    status=0
     # shellcheck disable=SC2086
-    if timeout "$seconds" "$program" prove $texts >"$triple/C"; then
+    timeout "$seconds" "$program" prove $texts >"$triple/C" || status=$?
+    if [ "$status" = 0 ]; then
       echo "$name: $("$program" verify $texts "$triple/C"), a certificate of $(wc -c <"$triple/C") bytes"
       # shellcheck disable=SC2046,SC2086
       $measure $2 $(aim_of "$name") --times 1 1.25 1.1 -- "$runs" check "$program check $texts" \
         prove "$program prove $texts" verify "$program verify $texts $triple/C"
-    else
+    elif [ "$status" = 124 ]; then
       echo "$name: no certificate within $seconds seconds"
+    else
+      echo "$name: no certificate, $(head -1 "$triple/C")"
     fi
   done
 }
