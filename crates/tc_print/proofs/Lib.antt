@@ -7,3 +7,4 @@ mod ReadBackText
 mod ReadBackTrees
 pub mod ReadBack
 pub mod Failed
+pub mod Writing

@@ -1,12 +1,12 @@
 -- Bytes of which none is one that needs a reference stand for themselves.
-use Rattle.std.proofs.Common.{◌≡◌, ◌<◌, ℕ, suc, Bool, true, false, ◌||◌, ◌==◌, List, [], ◌∷◌, ◌++◌, refl, ap, ◌∙◌, length, get_or, arith, codes, if◌then◌else◌, Option, None, Some, is_some, not, subst}
-use Rattle.std.proofs.lemmas.Bool.{true≢false}
+use Rattle.std.proofs.Common.{◌≡◌, ◌<◌, ◌+◌, ℕ, suc, Bool, true, false, sym, ◌||◌, ◌==◌, List, [], ◌∷◌, ◌++◌, refl, ap, ◌∙◌, length, get_or, arith, codes, if◌then◌else◌, Option, None, Some, is_some, not, subst}
+use Rattle.std.proofs.lemmas.Bool.{true≢false, eqb-true, eqb-false}
 use Rattle.std.specs.List.{flat_map}
 use Rattle.memchr.specs.Find.{IsFirstByte, is_byte2, is_byte3}
 use Rattle.tc_model.specs.Printed.{escaped_in_text, escaped_in_value}
 
 module _ (f : ℕ → List ℕ) where
-  all_stay : (bs : List ℕ) → ((k : ℕ) → k < length bs → f (get_or bs k 0) ≡ get_or bs k 0 ∷ []) → flat_map f bs ≡ bs
+  pub all_stay : (bs : List ℕ) → ((k : ℕ) → k < length bs → f (get_or bs k 0) ≡ get_or bs k 0 ∷ []) → flat_map f bs ≡ bs
   all_stay [] h = refl
   all_stay (b ∷ bs) h =
       ap (λ w. w ++ flat_map f bs) (h 0 (omega arith))
@@ -55,3 +55,12 @@ plain_value bs r s p e q f =
     let none = subst (IsFirstByte (is_byte3 38 60 34) bs) e p in
     let no_white = subst (IsFirstByte (is_byte3 9 10 13) bs) f q in
     all_stay escaped_in_value bs (λ k l. one_in_value (get_or bs k 0) (none k (omega arith) l) (no_white k (omega arith) l))
+
+-- byte after byte
+pub one_more_stays : (f : ℕ → List ℕ) (bs : List ℕ) (n : ℕ) → ((k : ℕ) → k < n → f (get_or bs k 0) ≡ get_or bs k 0 ∷ []) → f (get_or bs n 0) ≡ get_or bs n 0 ∷ []
+    → (k : ℕ) → k < n + 1 → f (get_or bs k 0) ≡ get_or bs k 0 ∷ []
+one_more_stays f bs n before here k l = by (k == n) refl
+  where
+    by : (x : Bool) → (k == n) ≡ x → f (get_or bs k 0) ≡ get_or bs k 0 ∷ []
+    by true e = subst (λ i. f (get_or bs i 0) ≡ get_or bs i 0 ∷ []) (sym (eqb-true k n e)) here
+    by false e = before k (omega (arith, l, eqb-false k n e))

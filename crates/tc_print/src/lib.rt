@@ -7,6 +7,7 @@
 
 mod escapes;
 mod tags;
+mod writer;
 
 ghost use Rattle.std.specs.Prelude.{◌≤◌, OnOk, OnErr};
 ghost use Rattle.tc_io.specs.Faults.{Rose};
@@ -21,6 +22,7 @@ use escapes::{Within, write_escaped};
 use tags::{begin_tag, write_end_tag};
 use tc_io::{Sink, WriteFault};
 use tc_model::Node;
+pub use writer::{Writer, law_of_written_trees};
 
 /// Appends trees as XML, one beside the other, without a declaration of the version or a line feed.
 ///

@@ -17,6 +17,7 @@ use tc_model::Name;
 const XML_URI: &str = "http://www.w3.org/XML/1998/namespace";
 
 /// Whether an element of this name declares no default namespace where this one is in force.
+#[inline(always)]
 fn needs_no_declaration(default: &str, of: &Name<'_>) -> bool
     ensures { result ≡ p.needs_no_declaration default.now (name of.now) }
 {
@@ -113,7 +114,7 @@ fn write_long_end_tag<K: Sink>(of: &Name<'_>, sink: &mut K) -> Result<(), WriteF
 }
 
 /// Writes the name in a tag.
-fn write_tag_name<K: Sink>(of: &Name<'_>, sink: &mut K) -> Result<(), WriteFault>
+pub fn write_tag_name<K: Sink>(of: &Name<'_>, sink: &mut K) -> Result<(), WriteFault>
     ensures ok { OnOk result
         (Appended (K.written sink.old) (K.written sink.new) (p.tag_name (name of.now))) }
     ensures fault { OnErr result

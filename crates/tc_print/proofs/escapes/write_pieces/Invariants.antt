@@ -2,7 +2,7 @@ use Rattle.std.proofs.Common.{◌≡◌, ◌≤◌, ◌-◌, take, drop}
 use Rattle.std.specs.List.{flat_map}
 use Rattle.tc_io.specs.Sink.{Appended}
 use Rattle.tc_print.specs.Pieces.{escaped}
-use Rattle.tc_print.proofs.escapes.write_escaped.Given as goal
+use Rattle.tc_print.proofs.escapes.write_pieces.Given as goal
 
 abbrev pub invariant-loop-place : goal.invariant-loop-place
 invariant-loop-place g l = record {

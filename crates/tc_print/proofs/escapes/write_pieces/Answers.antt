@@ -5,8 +5,8 @@ use Rattle.tc_io.proofs.Fronts.{on_err, on_err_map, on_ok_map, appended_twice, n
 use Rattle.tc_print.specs.Pieces.{escaped}
 use Rattle.tc_print.proofs.Runs.{between, none_between, run_written, run_longer, flat_next, front_of_all, all_written}
 use Rattle.tc_print.proofs.Failed.{no_ok}
-use Rattle.tc_print.proofs.escapes.write_escaped.Goals as goal
-use Rattle.tc_print.proofs.escapes.write_escaped.Goals.{in-Some+in_ok-write_run+in_ok-write, in_default}
+use Rattle.tc_print.proofs.escapes.write_pieces.Goals as goal
+use Rattle.tc_print.proofs.escapes.write_pieces.Goals.{in-Some+in_ok-write_run+in_ok-write, in_default}
 
 pub returns-in_err-write_run-clause-fault : goal.returns-in_err-write_run-clause-fault
 returns-in_err-write_run-clause-fault g c =
@@ -74,9 +74,6 @@ returns-clause-fault g c =
     let kept = c.loop-place.invariant in
     on_err_map c.write_run-2.result (λ h. subst (WroteFront _ _) (all_written f xs w c.loop-place.place kept.in_order (omega arith) kept.plain)
     (next_front _ _ _ (flat_map f (take w xs)) (between xs w (length xs)) kept.so_far h)) c.write_run-2.ensures.fault
-
-pub returns-then-is_plain-clause-faults : goal.returns-then-is_plain-clause-faults
-returns-then-is_plain-clause-faults g c = record { count = c.write.ensures.count; rose = c.write.ensures.rose }
 
 pub returns-in_err-write_run-clause-faults : goal.returns-in_err-write_run-clause-faults
 returns-in_err-write_run-clause-faults g c = record { count = omega (arith, c.loop-place.invariant.count, c.in_err-write_run.ensures.faults.count); rose = on_err c.from_residual.result (then_rose _ _ _ c.loop-place.invariant.count c.in_err-write_run.ensures.faults.rose) }
