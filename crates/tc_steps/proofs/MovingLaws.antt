@@ -1,5 +1,5 @@
 -- What is known of sets, steps and names while a document is taken.
-use Rattle.std.proofs.Common.{◌≡◌, ◌↔◌, ◌∙◌, ℕ, List, Option, false, None, Some, IfSome, sym, ap, subst}
+use Rattle.std.proofs.Common.{◌≡◌, ◌↔◌, ◌∙◌, ℕ, List, Option, false, None, Some, IfSome, refl, sym, ap, subst}
 use Rattle.std.proofs.lemmas.List.Elements.{All-weaker}
 use Rattle.std.proofs.lemmas.Option.{IfSome_then}
 use Rattle.tc_auto.specs.declared.auto.Auto.{Auto}
@@ -93,6 +93,10 @@ module _ (x : Grammar) where
         known = stays;
         sets = g;
       }
+
+  -- nothing changes
+  pub keeps_all : (m : Moves) → AreRight x m → Keeps x m m
+  keeps_all m r = record { right = r; symbols = refl; known = λ k h. h; sets = λ k s h. h }
 
   -- a set is put among the others
   pub keeps_put : (old new : Moves) → new.steps.auto.now ≡ old.steps.auto.now → new.steps.alphabet.now ≡ old.steps.alphabet.now → new.steps.classes.items ≡ old.steps.classes.items

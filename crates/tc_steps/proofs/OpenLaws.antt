@@ -154,6 +154,13 @@ pub leave_within : {x : Grammar} {a : Auto} {s : List Mention} {cs : List Class}
     → IsWithin x a s cs levels (depth - 1) has path []
 leave_within w some = let counted = w.counted in record { right = w.right; counted = omega (arith, counted, some); levels_are = w.levels_are.1; text = w.text }
 
+-- what is kept at a place that no open element has is another
+pub set_left : {x : Grammar} {a : Auto} {s : List Mention} {cs : List Class} {levels : List Level} {depth : ℕ} {has : Bool} {path : List Open} (n : ℕ) (c : Level) → IsWithin x a s cs levels depth has path [] → depth ≤ n
+    → IsWithin x a s cs (set levels n c) depth has path []
+set_left {x} {s = s} {cs = cs} {levels = levels} {path = path} n c w low =
+    let counted = w.counted in
+    record { right = w.right; counted = counted; levels_are = set_above x s cs levels n c path (omega (arith, counted, low)) w.levels_are; text = w.text }
+
 pub level_within : {x : Grammar} {a : Auto} {s : List Mention} {cs : List Class} {levels : List Level} {depth : ℕ} {has : Bool} {o : Open} {path : List Open} (l : Level) → IsWithin x a s cs levels depth has (o ∷ path) []
     → slice_get levels (depth - 1) ≡ Some l → IsLevel x s cs o l
 level_within {x} {s = s} {cs = cs} {levels = levels} {depth = depth} {o = o} {path = path} l w at =

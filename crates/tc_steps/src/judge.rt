@@ -74,6 +74,10 @@ impl<'h, 't> Judge<'h, 't> {
             return Some(());
         }
         let innermost = self.levels.len() - 1;
+        if let Some(to) = self.moves.known_text(&self.levels[innermost].states) {
+            self.levels[innermost].states.lead_to(to);
+            return Some(());
+        }
         let after = self.moves.after_text(&self.levels[innermost].states)?;
         self.levels[innermost].states = after;
         Some(())
@@ -93,6 +97,7 @@ impl<'h, 't> Judge<'h, 't> {
     }
 
     /// Goes over the root element.
+    #[inline(never)]
     fn end_root(&mut self, inner: &Opened) -> Option<()>
         ensures answer { IfSome result (λ _. (x : g.Grammar) (n : ExpandedName) (kids : t.Trees)
             → AreRight x self.old.moves → IsElement x self.old.moves n kids inner.now
@@ -114,6 +119,13 @@ impl<'h, 't> Judge<'h, 't> {
             return self.end_root(inner);
         }
         let innermost = self.levels.len() - 1;
+        if let Some(to) = self
+            .moves
+            .known_element(inner, &self.levels[innermost].states)
+        {
+            self.levels[innermost].states.lead_to(to);
+            return Some(());
+        }
         let after = self
             .moves
             .after_element(inner, &self.levels[innermost].states)?;
@@ -127,6 +139,7 @@ impl<'h, 't> TakesTrees<'t> for Judge<'h, 't> {
 
     ghost takes = { Takes };
 
+    #[inline(always)]
     fn text(&mut self, text: &'t str) -> Option<()> {
         if is_white_space_only(text) {
             return Some(());
@@ -134,11 +147,13 @@ impl<'h, 't> TakesTrees<'t> for Judge<'h, 't> {
         self.pass_text()
     }
 
+    #[inline(always)]
     fn start(&mut self, tag: Name<'t>) -> Option<()> {
         let opened = self.moves.start(tag)?;
         self.push_level(opened)
     }
 
+    #[inline(always)]
     fn end(&mut self) -> Option<()> {
         let inner = self.levels.pop()?;
         self.pass_element(&inner)

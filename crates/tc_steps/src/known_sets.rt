@@ -18,6 +18,19 @@ pub(crate) enum States {
     Own(Set),
 }
 
+impl States {
+    /// Makes these the states of a number.
+    pub(crate) fn lead_to(&mut self, number: usize)
+        ensures { self.new ≡ States.Numbered number }
+    {
+        if let States::Numbered(before) = self {
+            *before = number;
+            return;
+        }
+        *self = States::Numbered(number);
+    }
+}
+
 /// Sets that are known, each by its number, which it keeps.
 #[derive(Drop)]
 pub(crate) struct KnownSets {

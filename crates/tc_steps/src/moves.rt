@@ -105,20 +105,29 @@ impl<'h, 't> Moves<'h, 't> {
         self.sets.keep(states)
     }
 
-    /// The states behind a text that isn't white space alone.
+    /// The number of the states behind a text that isn't white space alone, if the step is remembered.
+    pub(crate) fn known_text(&self, from: &States) -> Option<usize>
+        ensures { (x : g.Grammar) → AreRight x self.now
+            → IfSome result (λ to. IsAfterText x self.now from.now (States.Numbered to)) }
+    {
+        let States::Numbered(number) = from else {
+            return None;
+        };
+        self.known.remembered(*number, Child::Text)
+    }
+
+    /// The states behind a text that isn't white space alone, which are worked out.
+    #[inline(never)]
     pub(crate) fn after_text(&mut self, from: &States) -> Option<States>
         ensures keeps { IfSome result (λ _. (x : g.Grammar) → AreRight x self.old
             → Keeps x self.old self.new) }
         ensures after { IfSome result (λ to. (x : g.Grammar) → AreRight x self.old
             → IsAfterText x self.new from.now to) }
     {
-        let States::Numbered(number) = from else {
-            return self.learn_text(from);
-        };
-        if let Some(to) = self.known.remembered(*number, Child::Text) {
-            return Some(States::Numbered(to));
-        }
         let to = self.learn_text(from)?;
+        let States::Numbered(number) = from else {
+            return Some(to);
+        };
         self.remember(*number, Child::Text, &to);
         Some(to)
     }
@@ -139,22 +148,31 @@ impl<'h, 't> Moves<'h, 't> {
         self.sets.keep(states)
     }
 
-    /// The states behind an element.
+    /// The number of the states behind an element, if the step is remembered.
+    pub(crate) fn known_element(&self, inner: &Opened, from: &States) -> Option<usize>
+        ensures { (x : g.Grammar) → AreRight x self.now → IfSome result
+            (λ to. IsAfterElement x self.now inner.now from.now (States.Numbered to)) }
+    {
+        let (States::Numbered(number), States::Numbered(ends)) = (from, &inner.states) else {
+            return None;
+        };
+        let child = Child::Element(inner.symbol, *ends);
+        self.known.remembered(*number, child)
+    }
+
+    /// The states behind an element, which are worked out.
+    #[inline(never)]
     pub(crate) fn after_element(&mut self, inner: &Opened, from: &States) -> Option<States>
         ensures keeps { IfSome result (λ _. (x : g.Grammar) → AreRight x self.old
             → IsMet self.old inner.now → Keeps x self.old self.new) }
         ensures after { IfSome result (λ to. (x : g.Grammar) → AreRight x self.old
             → IsMet self.old inner.now → IsAfterElement x self.new inner.now from.now to) }
     {
-        let (States::Numbered(number), States::Numbered(ends)) = (from, &inner.states) else {
-            return self.learn_element(inner, from);
-        };
-        let child = Child::Element(inner.symbol, *ends);
-        if let Some(to) = self.known.remembered(*number, child) {
-            return Some(States::Numbered(to));
-        }
         let to = self.learn_element(inner, from)?;
-        self.remember(*number, child, &to);
+        let (States::Numbered(number), States::Numbered(ends)) = (from, &inner.states) else {
+            return Some(to);
+        };
+        self.remember(*number, Child::Element(inner.symbol, *ends), &to);
         Some(to)
     }
 
@@ -175,6 +193,7 @@ impl<'h, 't> Moves<'h, 't> {
     }
 
     /// Works out an element of a name where it starts.
+    #[inline(never)]
     fn learn_start(&mut self, name: Name<'t>) -> Option<Opened>
         ensures keeps { IfSome result (λ _. (x : g.Grammar) → AreRight x self.old
             → Keeps x self.old self.new) }

@@ -9,8 +9,9 @@ ghost use Rattle.tc_sets.specs.Numbers.{Has, HasNone};
 ghost use Rattle.tc_steps.specs.Led.{AreAllowed, AreLed, IsAfterElement, IsTaken};
 ghost use Rattle.tc_steps.specs.Sets.{AreForElement, AreForText};
 
-use crate::arrows::{add_ends, replace};
+use crate::arrows::add_ends;
 use crate::patterns::is_taken;
+use std::mem;
 use tc_auto::Auto;
 use tc_sets::Set;
 
@@ -41,7 +42,7 @@ pub(crate) fn pass_text(automaton: &Auto<'_>, states: &mut Set, next: &mut Set)
 {
     next.clear();
     add_ends(automaton.text_arrows(), states, next);
-    replace(states, next);
+    mem::swap(states, next);
 }
 
 /// Adds the states to which an element leads some states: one that these element patterns allow, whose children lead
@@ -80,5 +81,5 @@ pub(crate) fn pass_element(
 {
     next.clear();
     add_after(automaton, numbers, ends, states, next);
-    replace(states, next);
+    mem::swap(states, next);
 }

@@ -13,10 +13,10 @@ ghost use Rattle.tc_steps.specs.Led.{AreLed, IsStarted};
 ghost use Rattle.tc_steps.specs.Open.{IsWithin, Open, with_element, with_text};
 ghost use Rattle.tc_steps.specs.declared.levels.Level.{Level};
 
-use crate::arrows::replace;
 use crate::levels::{Level, all_levels};
 use crate::table::Steps;
 use std::alloc::Global;
+use std::mem;
 use tc_alpha::{Alphabet, Sym};
 use tc_auto::Auto;
 use tc_base::NoMemory;
@@ -159,7 +159,7 @@ impl<'h> Validity<'h> {
     }
 
     /// Takes the innermost element away, behind which no text stands: its symbol, and in `ended` the states to which its
-    /// children lead.
+    /// children lead. Its level means nothing then.
     fn leave(&mut self) -> Sym
         requires { 0 < self.old.depth }
         ensures room { length self.new.levels.items ≡ length self.old.levels.items }
@@ -181,8 +181,8 @@ impl<'h> Validity<'h> {
             × AreLed x o.name o.kids self.new.ended }
     {
         self.depth -= 1;
-        let level = &self.levels[self.depth];
-        replace(&mut self.ended, &level.states);
+        let level = &mut self.levels[self.depth];
+        mem::swap(&mut self.ended, &mut level.states);
         level.symbol
     }
 

@@ -1,10 +1,10 @@
 -- How character data is read on, and how an item begins behind it or between two tags.
-use Rattle.std.proofs.Common.{◌≡◌, ◌≢◌, inl, inr, ℕ, suc, ◌<◌, ◌≤◌, ◌+◌, ◌-◌, Bool, true, false, cond, not, ◌&&◌, ◌||◌, ◌==◌, List, [], ◌∷◌, ◌++◌, refl, ap, ◌∙◌, sym, subst, length, take, drop, get_or, arith, IsTrue, append_assoc, append-nil, add-zero, length-append, take-append-drop}
+use Rattle.std.proofs.Common.{◌≡◌, ◌≢◌, inl, inr, ℕ, suc, ◌<◌, ◌≤◌, ◌+◌, ◌-◌, Bool, true, false, cond, ltb, not, ◌&&◌, ◌||◌, ◌==◌, List, [], ◌∷◌, ◌++◌, refl, ap, ◌∙◌, sym, subst, length, take, drop, get_or, arith, IsTrue, append_assoc, append-nil, add-zero, length-append, take-append-drop}
 use Rattle.std.specs.Prelude.{◌↔◌}
 use Rattle.std.specs.List.{prefix_len, list_all}
-use Rattle.std.proofs.lemmas.Bool.{true≢false, eqb-true}
+use Rattle.std.proofs.lemmas.Bool.{true≢false, eqb-true, ltb-true, ltb-false}
 use Rattle.std.proofs.lemmas.List.Folds.{list_all-append, length-prefix_len}
-use Rattle.std.proofs.lemmas.List.Sums.{prefix_len-le-length, prefix_len_stops}
+use Rattle.std.proofs.lemmas.List.Sums.{prefix_len-drop_all, prefix_len-drop_no, prefix_len-le-length, prefix_len_stops}
 use Rattle.std.proofs.lemmas.Str.{encode_ascii}
 use Rattle.tc_base.specs.Characters.{is_char}
 use Rattle.tc_model.specs.Grammars.{Grammar}
@@ -332,6 +332,16 @@ at_front {text} {run} {rest} n e some front back =
 
 pub at_front_less : {text run rest : List ℕ} → AtFront text run rest → length rest < length text
 at_front_less {text} {run} {rest} a = omega (arith, a.some, ap length a.parts_are, length-append run rest)
+
+-- behind it no other one begins
+pub bare_behind : (text rest : List ℕ) (n : ℕ) → n ≡ prefix_len is_plain text → rest ≡ drop n text → prefix_len is_plain rest ≡ 0
+bare_behind text rest n e back = ap (prefix_len is_plain) back ∙ by (ltb n (length text)) refl
+  where
+    by : (b : Bool) → ltb n (length text) ≡ b → prefix_len is_plain (drop n text) ≡ 0
+    by true l =
+        let low : n < length text = ltb-true n (length text) l in
+        prefix_len-drop_no is_plain text n 0 low (ap (λ k. is_plain (get_or text k 0)) e ∙ prefix_len_stops is_plain text 0 (omega (arith, e, low)))
+    by false l = prefix_len-drop_all is_plain text n (ltb-false n (length text) l)
 
 pub begun_text : {old new : Reader} {text run rest : List ℕ} {blank : Bool} (end place known : ℕ) → AtFront text run rest → old.part ≡ parts.Between → old.phase ≡ phases.Content → IsReading old
     → cdata_scan 0 run ≡ going known → is_white_space_only run ≡ blank → TakesText blank old.elements new.elements → new.part ≡ parts.Data known → new.phase ≡ old.phase → new.begun ≡ place → place + length text ≡ end

@@ -21,8 +21,8 @@ use Rattle.tc_tags.proofs.AddingLaws.{kept_behind}
 use Rattle.tc_tags.proofs.NameBytes.{ends_name}
 use Rattle.tc_tags.proofs.TagLaws.{open_end}
 use Rattle.tc_stream.specs.Goes.{Level, used}
-use Rattle.tc_stream.specs.Keeps.{AreOpen, Enters, IsNamed, IsText, IsUnnamed, Starts, entered}
-use Rattle.tc_stream.specs.Named.{alone, IsNameAlone}
+use Rattle.tc_stream.specs.Keeps.{AreOpen, AreTexts, Enters, IsText, Starts, entered}
+use Rattle.tc_stream.specs.Named.{alone, local_name, tag_of, IsTagOf}
 use Rattle.tc_stream.specs.TagStands.{IsStartTag}
 use Rattle.tc_stream.specs.WholeTags.{IsWholeStart}
 use Rattle.tc_stream.specs.XmlTextMeasures.{most_names}
@@ -68,16 +68,9 @@ module _ {tag : List ℕ} {f : Form} {n : QualifiedName} {names now : List ℕ} 
       let before = names_used m.around in
       omega (arith, all, before, short)
 
-  pub named_means : {x : ExpandedName} → AllByRecursion (IsText names) declared → IsNamed tag now declared f.name x → TagMeans outer n [] outer x []
+  pub named_means : {x : ExpandedName} → AllByRecursion (IsText names) declared → ((scope : List Bound) → AreTexts now declared → Binds (map (binding_in now) declared) scope → ElementName scope n x) → TagMeans outer n [] outer x []
   unfolding IsDistinct
-  named_means {x} h k =
-      let is : ElementName outer n x = subst (λ z. ElementName outer z x) (same_name m.read.name) (k outer (local_text m.read) (all_texts now declared (named_texts h)) binds) in
-      record { once = tt; no_space = refl; scopes = refl; names = is; expands = no_more; expanded_once = tt }
-
-  pub unnamed_nothing : AllByRecursion (IsText names) declared → IsUnnamed tag now declared f.name → (scope : List Bound) (x : ExpandedName) (a : List Attribute) → TagMeans outer n [] scope x a → ⊥
-  unnamed_nothing h refuse scope x a k =
-      refuse outer (local_text m.read) (all_texts now declared (named_texts h)) binds x
-      (subst (λ z. ElementName outer z x) (sym (same_name m.read.name)) (subst (λ z. ElementName z n x) k.scopes k.names))
+  named_means {x} h k = record { once = tt; no_space = refl; scopes = refl; names = k outer (all_texts now declared (named_texts h)) binds; expands = no_more; expanded_once = tt }
 
 -- it isn't an empty-element tag
 pub opened : {old new : Elements} {ls : List Level} {outer : List Bound} {n : QualifiedName} (b : Bool) → b ≡ false → Enters old new ls outer (alone n) → Starts old new ls outer (alone n) b
@@ -94,23 +87,20 @@ opened b is o = record {
   valid = λ e. absurd (true≢false (sym e ∙ is));
 }
 
+-- where the name stands in the tag of a name alone
+pub span_local : (local : List ℕ) → at_span (record { start = 1; length = length local }) (tag_of local) ≡ local
+span_local local = take_at local (0x3E ∷ []) (length local) refl
+
 -- a name alone at the front of a text
 
-module _ {text rest after inside local : List ℕ} (f : Form) (count : ℕ) (is : text ≡ 0x3C ∷ rest) (name : NcNameAt rest local after) (ends : after ≡ 0x3E ∷ inside) (from : f.name.local.start ≡ 1) (many : f.name.local.length ≡ length local)
-    (none : f.name.prefix.length ≡ 0) (opens : f.is_empty ≡ false) (long : count ≡ length local + 2) where
-  abbrev tag : List ℕ
-  tag = 0x3C ∷ (local ++ 0x3E ∷ [])
-
-  abbrev written : QualifiedName
-  written = record { prefix = []; local = local }
-
-  whole : text ≡ tag ++ inside
+module _ {text rest after inside local : List ℕ} (count : ℕ) (is : text ≡ 0x3C ∷ rest) (name : NcNameAt rest local after) (ends : after ≡ 0x3E ∷ inside) (long : count ≡ length local + 2) where
+  whole : text ≡ tag_of local ++ inside
   whole = is ∙ ap (λ z. 0x3C ∷ z) (name.parts ∙ (ap (λ z. local ++ z) ends ∙ sym (append_assoc local (0x3E ∷ []) inside)))
 
-  same : take count text ≡ tag
-  same = ap (take count) whole ∙ take_at tag inside count (omega (arith, long, length-append local (0x3E ∷ [])))
+  same : take count text ≡ tag_of local
+  same = ap (take count) whole ∙ take_at (tag_of local) inside count (omega (arith, long, length-append local (0x3E ∷ [])))
 
-  form : TagFormAt false (length tag) tag (alone written) (0x3E ∷ [])
+  form : TagFormAt false (length (tag_of local)) (tag_of local) (alone (local_name local)) (0x3E ∷ [])
   form = record {
     rest = local ++ 0x3E ∷ [];
     past_name = 0x3E ∷ [];
@@ -122,20 +112,7 @@ module _ {text rest after inside local : List ℕ} (f : Form) (count : ℕ) (is 
     no_space = refl;
   }
 
-  read : IsNameAlone tag f
-  read = record {
-    name = written;
-    read = record {
-      form = subst (λ (b : Bool). TagFormAt false (length tag) tag (alone written) (if b then codes "/>" else codes ">")) (sym opens) form;
-      name = record {
-        prefix = ap (λ k. take k (drop f.name.prefix.start tag)) none;
-        local = ap (λ k. take f.name.local.length (drop k tag)) from ∙ take_at local (0x3E ∷ []) f.name.local.length (sym many);
-      };
-    };
-    opens = opens;
-  }
-
-  starts : IsStartTag tag
+  starts : IsStartTag (tag_of local)
   starts =
       let s = tag_starts form.opens form.names in
       record { char = s.char; rest = s.rest; opens = s.opens; starts = s.starts; ends = tag_scanned form (open_end refl) }
@@ -143,10 +120,10 @@ module _ {text rest after inside local : List ℕ} (f : Form) (count : ℕ) (is 
   pub alone_whole : count ≤ 65536 → IsWholeStart text count
   alone_whole short = record {
     some = omega (arith, long);
-    low = omega (arith, long, ap length whole, length-append tag inside, length-append local (0x3E ∷ []));
+    low = omega (arith, long, ap length whole, length-append (tag_of local) inside, length-append local (0x3E ∷ []));
     short = short;
     tag = subst IsStartTag (sym same) starts;
   }
 
-  pub alone_read : IsNameAlone (take count text) f
-  alone_read = subst (λ z. IsNameAlone z f) (sym same) read
+  pub alone_read : IsTagOf local (take count text)
+  alone_read = record { tag_is = same; read = record { form = form; name = record { prefix = refl; local = span_local local } } }

@@ -1,5 +1,5 @@
 -- What a stream answers at the end of a text.
-use Rattle.std.proofs.Common.{◌≡◌, ℕ, ◌+◌, ◌++◌, Bool, List, refl, ap, sym, subst, length, arith, length-append, None, Some, Result, Ok, Err}
+use Rattle.std.proofs.Common.{◌≡◌, ℕ, ◌+◌, ◌++◌, ◌∙◌, Bool, List, [], refl, ap, sym, subst, length, arith, append_assoc, append-nil, length-append, None, Some, Result, Ok, Err}
 use Rattle.std.specs.Prelude.{◌↔◌, IfErr, IfOk, IsOk, IsTrue}
 use Rattle.tc_model.specs.Grammars.{Grammar}
 use Rattle.tc_model.specs.RawTrees.{RawTrees}
@@ -9,7 +9,7 @@ use Rattle.tc_model.specs.Validity.{IsValid}
 use Rattle.tc_model.specs.XmlText.{XmlText}
 use Rattle.tc_model.specs.XmlTextRefusals.{Cause, XmlTextRefuses}
 use Rattle.tc_stream.specs.Cuts.{BeginsNoChar, cut_bytes}
-use Rattle.tc_stream.specs.Faults.{IsFaultOf, IsLimit, fault_by, limit_of}
+use Rattle.tc_stream.specs.Faults.{IsFaultOf, IsFaultOfFront, IsLimit, fault_by, limit_of}
 use Rattle.tc_stream.specs.Stands.{ReadsTo}
 use Rattle.tc_stream.specs.Streams.{StandsFor}
 use Rattle.tc_stream.specs.XmlTextMeasures.{IsGood, IsWithinMeasures, Measure, PassesFirst}
@@ -26,24 +26,46 @@ some_fault e = cc
 pub same_fault : {e f : StreamFault} → Some e ≡ Some f → e ≡ f
 same_fault e = cc
 
+-- of the bytes that have come, some are read, and the others are held
+pub read_before : {x : Grammar} {text : List ℕ} (s : Stream) (k : StandsFor x s text) → (length k.chars + length (cut_bytes s.cut)) + length s.held.bytes.items ≡ s.fed
+read_before s k = omega (arith, k.fed, ap length k.parts_are, length-append (k.chars ++ cut_bytes s.cut) s.held.bytes.items, length-append k.chars (cut_bytes s.cut))
+
+-- all are, where none is held
+pub all_read : {x : Grammar} {text : List ℕ} (s : Stream) (k : StandsFor x s text) → s.held.bytes.items ≡ [] → text ≡ k.chars ++ cut_bytes s.cut
+all_read s k none = k.parts_are ∙ (ap (λ z. (k.chars ++ cut_bytes s.cut) ++ z) none ∙ append-nil _)
+
 -- a text has ended with this result
 pub record Ends (x : Grammar) (text : List ℕ) (r : Result Bool StreamFault) : Type 0 where
   pub valid : (b : Bool) → r ≡ Ok b → (h : RawTrees) × IsGood text h × (IsTrue b ↔ IsValid x (stripped h))
   pub fault : (e : StreamFault) → r ≡ Err e → IsFaultOf text e
 
-pub ended_by : (s : Stream) (x : Grammar) (text : List ℕ) (r : Result Bool StreamFault) → StandsFor x s text
+pub ended_by : (s : Stream) (x : Grammar) (text : List ℕ) (r : Result Bool StreamFault) → StandsFor x s text → s.held.bytes.items ≡ []
     → ((chars : List ℕ) → IsStart x.start → length chars + length (cut_bytes s.cut) ≡ s.fed → ReadsTo x s.reader chars
     → IfOk r (λ b. (h : RawTrees) × IsGood (chars ++ cut_bytes s.cut) h × (IsTrue b ↔ IsValid x (stripped h))))
     → ((chars : List ℕ) → length chars + length (cut_bytes s.cut) ≡ s.fed → BeginsNoChar (cut_bytes s.cut) → ReadsTo x s.reader chars → IfErr r (λ e. IsFaultOf (chars ++ cut_bytes s.cut) e)) → Ends x text r
-ended_by s x text r k ok faults = record {
+ended_by s x text r k none ok faults = record {
   valid = λ b is.
-      subst (λ z. (h : RawTrees) × IsGood z h × (IsTrue b ↔ IsValid x (stripped h))) (sym k.parts_are)
+      subst (λ z. (h : RawTrees) × IsGood z h × (IsTrue b ↔ IsValid x (stripped h))) (sym (all_read s k none))
       (at_ok r (λ b. (h : RawTrees) × IsGood (k.chars ++ cut_bytes s.cut) h × (IsTrue b ↔ IsValid x (stripped h))) b is (ok k.chars k.start counted k.reads));
-  fault = λ e is. subst (λ z. IsFaultOf z e) (sym k.parts_are) (at_err r (λ e. IsFaultOf (k.chars ++ cut_bytes s.cut) e) e is (faults k.chars counted (no_char_cut (cut_bytes s.cut) k.cut_off) k.reads));
+  fault = λ e is. subst (λ z. IsFaultOf z e) (sym (all_read s k none)) (at_err r (λ e. IsFaultOf (k.chars ++ cut_bytes s.cut) e) e is (faults k.chars counted (no_char_cut (cut_bytes s.cut) k.cut_off) k.reads));
 }
   where
     counted : length k.chars + length (cut_bytes s.cut) ≡ s.fed
-    counted = omega (arith, k.fed, ap length k.parts_are, length-append k.chars (cut_bytes s.cut))
+    counted = omega (arith, read_before s k, ap length none)
+
+-- the same by what the result promises
+pub ends_by : (text : List ℕ) (x : Grammar) (r : Result Bool StreamFault) → IfOk r (λ b. (h : RawTrees) × IsGood text h × (IsTrue b ↔ IsValid x (stripped h))) → IfErr r (λ e. IsFaultOf text e) → Ends x text r
+ends_by text x r ok fault = record {
+  valid = λ b is. at_ok r (λ b. (h : RawTrees) × IsGood text h × (IsTrue b ↔ IsValid x (stripped h))) b is ok;
+  fault = λ e is. at_err r (λ e. IsFaultOf text e) e is fault;
+}
+
+-- the fault of a text's front, however that goes on
+pub front_whole : (text : List ℕ) (e : StreamFault) → IsFaultOfFront text e → IsFaultOf text e
+front_whole text e h = subst (λ z. IsFaultOf z e) (append-nil text) (h [])
+
+pub front_longer : (text more : List ℕ) (e : StreamFault) → IsFaultOfFront text e → IsFaultOfFront (text ++ more) e
+front_longer text more e h r = subst (λ z. IsFaultOf z e) (sym (append_assoc text more r)) (h (more ++ r))
 
 is_ok_by : (r : Result Bool StreamFault) → ((e : StreamFault) → r ≡ Err e → ⊥) → IsOk r
 is_ok_by (Ok b) h = refl

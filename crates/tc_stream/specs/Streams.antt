@@ -15,12 +15,13 @@ fed_of s = s.fed
 abbrev pub fault_found : Stream → Option StreamFault
 fault_found s = s.fault
 
--- The stream stands for a text of this schema's documents: its whole characters are read, and the bytes of a character that is cut off are kept.
+-- The stream stands for a text of this schema's documents: of what was read the whole characters are read, and the bytes of a character that is cut off are
+-- kept; the bytes behind, of pieces that aren't read yet, are held.
 pub record StandsFor (x : Grammar) (s : Stream) (text : List ℕ) : Type 0 where
   pub start : IsStart x.start
   pub no_fault : s.fault ≡ None
   pub fed : s.fed ≡ length text
   pub chars : List ℕ
   pub reads : ReadsTo x s.reader chars
-  pub parts_are : text ≡ chars ++ cut_bytes s.cut
+  pub parts_are : text ≡ (chars ++ cut_bytes s.cut) ++ s.held.bytes.items
   pub cut_off : (cut_bytes s.cut ≡ []) ⊎ TellsFront (cut_bytes s.cut) fronts.Short

@@ -81,7 +81,7 @@ pub(crate) struct Elements<'h> {
 
 impl<'h> Elements<'h> {
     ghost use Rattle.tc_stream.specs.Keeps.{AreSteps, Enters, GoesInto, IsMeaningless, IsReady, IsRefused, IsUnnamed, Keeps, NoStart, Starts, written_bytes};
-    ghost use Rattle.tc_stream.specs.Named.{GoesNamed, IsNameAlone, alone};
+    ghost use Rattle.tc_stream.specs.Named.{GoesNamed, IsNameAlone, alone, local_name};
 
     /// No element is open.
     pub(crate) fn new(
@@ -232,60 +232,47 @@ impl<'h> Elements<'h> {
         Ok(())
     }
 
-    /// Goes into the element of a tag that is a name alone, which is kept behind the names that there were before its
-    /// level, if the name means something.
-    fn step_named(&mut self, tag: &str, name: &WrittenName, level: Level) -> Option<()>
+    /// Goes into an element of this local name, which is kept behind the names that there were before its level.
+    fn step_named(&mut self, local: &str, level: Level)
         requires room { length self.old.levels.items < DEEPEST_NESTING }
         requires chained { self.old.rooms.scopes.chains.chains
             ≡ chains_in self.old.rooms.names.bytes.items self.old.rooms.scopes.declared.items }
         ensures rooms { self.new.rooms ≡ self.old.rooms }
-        ensures levels { OnSome result
-            (self.new.levels.items ≡ self.old.levels.items ++ level ∷ []) }
-        ensures into { MatchOption result
-            (IsUnnamed tag.now self.old.rooms.names.bytes.items
-            self.old.rooms.scopes.declared.items name.now)
-            (λ _. GoesNamed tag.now name.now self.old self.new) }
+        ensures levels { self.new.levels.items ≡ self.old.levels.items ++ level ∷ [] }
+        ensures into { GoesNamed local.now self.old self.new }
     {
-        let Some(expanded) = self.rooms.expanded(tag.as_bytes(), name) else {
-            return None;
-        };
-        self.validity.start(&expanded);
+        let name = self.rooms.unprefixed(local);
+        self.validity.start(&name);
         let _is_pushed = self.levels.push(level).is_ok();
-        Some(())
     }
 
-    /// Goes into the element of a tag that is a name alone.
-    pub(crate) fn enter_named(&mut self, tag: &str, form: &Form) -> Result<(), NoElement>
+    /// Goes into the element of a tag that is this local name alone.
+    pub(crate) fn enter_named(&mut self, local: &str) -> Result<(), NoElement>
         requires ready { IsReady self.old }
         requires depth { length self.old.levels.items < DEEPEST_NESTING }
-        requires named { IsNameAlone tag.now form.now }
+        requires named { IsNameAlone local.now }
         ensures ready { OnOk result (IsReady self.new) }
-        ensures enters { OnOk result
-            ((n : QualifiedName) (ls : List goes.Level) (outer : List Bound)
-            → FormRead tag.now form.now (alone n) → Keeps self.old ls outer
-            → Enters self.old self.new ls outer (alone n)) }
-        ensures no { IfErr result
-            (λ e. (n : QualifiedName) (ls : List goes.Level) (outer : List Bound)
-            → FormRead tag.now form.now (alone n) → Keeps self.old ls outer
-            → NoStart e ls outer (alone n)) }
+        ensures enters { OnOk result ((ls : List goes.Level) (outer : List Bound)
+            → Keeps self.old ls outer
+            → Enters self.old self.new ls outer (alone (local_name local.now))) }
+        ensures no { IfErr result (λ e. (ls : List goes.Level) (outer : List Bound)
+            → Keeps self.old ls outer → NoStart e ls outer (alone (local_name local.now))) }
     {
         let names = self.rooms.names.len();
         let declared = self.rooms.scopes.len();
-        let written = whole(tag, &form.name).of(tag.as_bytes());
-        if !self.rooms.names.push_all(written) {
+        if !self.rooms.names.push_all(local.as_bytes()) {
             return Err(NoElement::NamesTooLong);
         }
+        let name = Span {
+            start: names,
+            length: local.len(),
+        };
         let level = Level {
-            name: Span {
-                start: names,
-                length: written.len(),
-            },
+            name,
             names,
             declared,
         };
-        let Some(()) = self.step_named(tag, &form.name, level) else {
-            return Err(NoElement::Malformed);
-        };
+        self.step_named(local, level);
         Ok(())
     }
 

@@ -121,12 +121,26 @@ fn clear_run(bytes: &[u8]) -> Option<usize>
     Some(count)
 }
 
+/// Whether no run of character data is at the front.
+fn begins_no_run(bytes: &[u8]) -> bool
+    ensures { IsTrue result → prefix_len is_plain bytes.now ≡ 0 }
+{
+    bytes.is_empty() || ends_run(bytes[0])
+}
+
 /// The run of character data at the front.
 pub(crate) fn run_at(text: &str) -> Run
     ensures count { result.count ≡ prefix_len is_plain text.now }
     ensures clear { IsTrue result.is_clear → cdata_scan 0 (take result.count text.now) ≡ going 0 }
 {
-    match clear_run(text.as_bytes()) {
+    let bytes = text.as_bytes();
+    if begins_no_run(bytes) {
+        return Run {
+            count: 0,
+            is_clear: false,
+        };
+    }
+    match clear_run(bytes) {
         Some(count) => Run {
             count,
             is_clear: true,

@@ -199,7 +199,24 @@ impl Reader<'_> {
         let (run, rest) = text.split_at(count);
         self.begun = place_of(end, text);
         self.read_run(run, 0, front.is_clear)?;
-        Ok(rest)
+        self.read_behind(rest, end)
+    }
+
+    /// Reads what stands behind a run of character data, unless nothing does: a reference, or an item with a `<`.
+    fn read_behind<'t>(&mut self, text: &'t str, end: u32) -> Result<&'t str, StreamFault>
+        requires ready { IsReading self.old }
+        requires open_here { IsOpen self.old }
+        requires bare { prefix_len is_plain text.now ≡ 0 }
+        requires within { length text.now ≤ end }
+        requires low { end ≤ LONGEST_FILE }
+        ensures ok { IfOk result (λ rest. ReadsOn self.old self.new text.now rest.now end) }
+        ensures less { IfOk result (λ rest. length rest.now ≤ length text.now) }
+        ensures fault { IfErr result (λ e. FaultsOn self.old text.now end e) }
+    {
+        if text.is_empty() {
+            return Ok(text);
+        }
+        self.begin_reference(text, end)
     }
 
     /// Reads on in character data that ends with so many closing brackets, or begins another item.
@@ -225,7 +242,7 @@ impl Reader<'_> {
         }
         let (run, rest) = text.split_at(count);
         self.read_run(run, brackets, front.is_clear)?;
-        Ok(rest)
+        self.read_behind(rest, end)
     }
 
     /// Begins a reference, or an item with a `<`, in content.

@@ -1,5 +1,5 @@
 // A document that comes in pieces.
-ghost use Rattle.std.specs.Prelude.{◌≡◌, ◌≤◌, ◌<◌, length, slice_index, None};
+ghost use Rattle.std.specs.Prelude.{◌≡◌, ◌≤◌, ◌<◌, ◌+◌, length, slice_index, None};
 ghost use Rattle.tc_base.specs.declared.limits.TheConstants.{LONGEST_FILE, MOST_INPUT_STATES};
 ghost use Rattle.tc_stream.specs.Cuts.{char_length, cut_bytes};
 ghost use Rattle.tc_stream.specs.Stands.{IsReading};
@@ -12,9 +12,14 @@ use std::alloc::Global;
 use tc_alpha::Alphabet;
 use tc_auto::Auto;
 use tc_base::NoMemory;
+use tc_tags::Room;
+
+/// So many bytes of small pieces are held, and then read at once.
+const MOST_HELD: usize = 1024;
 
 /// A document that comes in pieces, as far as it has come, and its validity for a schema. It keeps at most 2,000
-/// elements that are open with their names and the states to which their children lead, and one tag.
+/// elements that are open with their names and the states to which their children lead, one tag, and the bytes of some
+/// small pieces that aren't read yet.
 ///
 /// A text is good if it is of the form of XML that is read (XML 1.0, 2.1), none of its tags has more than 65,536 bytes,
 /// and the names of open elements, with what their tags declare, never have more.
@@ -22,16 +27,17 @@ use tc_base::NoMemory;
 pub struct Stream<'h> {
     reader: Reader<'h>,
     cut: Cut,
+    held: Room,
     fed: u32,
     fault: Option<StreamFault>,
     ghost fed_within: { fed ≤ LONGEST_FILE },
-    ghost cut_within: { length (cut_bytes cut) ≤ fed },
+    ghost held_within: { length (cut_bytes cut) + length held.bytes.items ≤ fed },
     ghost cut_short: { 0 < length (cut_bytes cut) → length (cut_bytes cut) < char_length (slice_index (cut_bytes cut) 0) },
     ghost ready: { fault ≡ None → IsReading reader },
 }
 
 impl<'h> Stream<'h> {
-    ghost use Rattle.std.specs.Prelude.{◌+◌, ◌++◌, ◌↔◌, ℕ, List, [], IfOk, IfErr, OnOk, OnErr, IsOk, IsTrue, Some, Err};
+    ghost use Rattle.std.specs.Prelude.{◌++◌, ◌↔◌, ℕ, List, [], IfOk, IfErr, OnOk, OnErr, IsOk, IsTrue, IsFalse, Some, Err, if◌then◌else◌};
     ghost use Rattle.tc_auto.specs.Stands as a;
     ghost use Rattle.tc_model.specs.Grammars as g;
     ghost use Rattle.tc_model.specs.RawTrees.{RawTrees};
@@ -65,18 +71,83 @@ impl<'h> Stream<'h> {
             → a.Stands s.input x auto.now → IsStart x.start
             → alphabet.now ≡ symbols_of x other sheet → StandsFor x r []) }
     {
+        Stream::holding(alloc, auto, alphabet, MOST_HELD)
+    }
+
+    /// The same, where so many bytes of small pieces are held at most.
+    ///
+    /// # Errors
+    ///
+    /// There is no memory.
+    pub fn holding(
+        alloc: Global,
+        auto: &'h Auto<'h>,
+        alphabet: &'h Alphabet,
+        most: usize,
+    ) -> Result<Stream<'h>, NoMemory>
+        requires { a.states auto.now ≤ MOST_INPUT_STATES }
+        ensures none { IfOk result (λ r. (fed_of r ≡ 0) × (fault_found r ≡ None)) }
+        ensures stands { IfOk result (λ r. (x other : g.Grammar) (sheet : sh.Sheet)
+            → a.Stands s.input x auto.now → IsStart x.start
+            → alphabet.now ≡ symbols_of x other sheet → StandsFor x r []) }
+    {
         let reader = Reader::new(alloc, auto, alphabet)?;
+        let held = Room::new(alloc, most)?;
         Ok(Stream {
             reader,
             cut: Cut::none(),
+            held,
             fed: 0,
             fault: None,
         })
     }
 
-    /// Adds a piece to the text of a stream without a fault.
-    fn advance(&mut self, piece: &[u8]) -> Result<(), StreamFault>
+    /// Reads the bytes that are held, of a stream without a fault.
+    fn read_held(&mut self) -> Result<(), StreamFault>
+        requires { fault_found self.old ≡ None }
+        ensures ok { (x : g.Grammar) (text : List ℕ) → StandsFor x self.old text
+            → OnOk result (StandsFor x self.new text) }
+        ensures none { OnOk result (self.new.held.bytes.items ≡ []) }
+        ensures fault { (x : g.Grammar) (text : List ℕ) → StandsFor x self.old text
+            → IfErr result (λ e. IsFaultOfFront text e) }
+        ensures found { OnOk result (fault_found self.new ≡ None) }
+        ensures kept { IfErr result (λ e. fault_found self.new ≡ Some e) }
+        ensures fed { fed_of self.new ≡ fed_of self.old }
+    {
+        let before = self.fed - self.held.len() as u32;
+        match take(&mut self.reader, &mut self.cut, before, self.held.bytes()) {
+            Ok(()) => {
+                self.held.keep(0);
+                Ok(())
+            }
+            Err(found) => {
+                self.fault = Some(found);
+                Err(found)
+            }
+        }
+    }
+
+    /// Adds a piece to the bytes that are held, if there is room for all of it; whether there was.
+    fn hold(&mut self, piece: &[u8]) -> bool
         requires none { fault_found self.old ≡ None }
+        requires room { fed_of self.old + length piece.now ≤ LONGEST_FILE }
+        ensures held { (x : g.Grammar) (text : List ℕ) → StandsFor x self.old text
+            → StandsFor x self.new (if result then text ++ piece.now else text) }
+        ensures left { IsFalse result → self.new.held.bytes.items ≡ self.old.held.bytes.items }
+        ensures found { fault_found self.new ≡ None }
+        ensures fed { fed_of self.new ≡ fed_of self.old + (if result then length piece.now else 0) }
+    {
+        if !self.held.push_all(piece) {
+            return false;
+        }
+        self.fed += piece.len() as u32;
+        true
+    }
+
+    /// Reads a piece of a stream without a fault, of which no bytes are held.
+    fn read_piece(&mut self, piece: &[u8]) -> Result<(), StreamFault>
+        requires none { fault_found self.old ≡ None }
+        requires all_read { self.old.held.bytes.items ≡ [] }
         requires room { fed_of self.old + length piece.now ≤ LONGEST_FILE }
         ensures ok { (x : g.Grammar) (text : List ℕ) → StandsFor x self.old text
             → OnOk result (StandsFor x self.new (text ++ piece.now)) }
@@ -98,8 +169,28 @@ impl<'h> Stream<'h> {
         }
     }
 
+    /// Adds a piece to the text of a stream without a fault, for which the bytes that are held leave no room.
+    fn advance(&mut self, piece: &[u8]) -> Result<(), StreamFault>
+        requires none { fault_found self.old ≡ None }
+        requires room { fed_of self.old + length piece.now ≤ LONGEST_FILE }
+        ensures ok { (x : g.Grammar) (text : List ℕ) → StandsFor x self.old text
+            → OnOk result (StandsFor x self.new (text ++ piece.now)) }
+        ensures fault { (x : g.Grammar) (text : List ℕ) → StandsFor x self.old text
+            → IfErr result (λ e. IsFaultOfFront (text ++ piece.now) e) }
+        ensures kept { IfErr result (λ e. fault_found self.new ≡ Some e) }
+        ensures fed_ok { OnOk result (fed_of self.new ≡ fed_of self.old + length piece.now) }
+        ensures fed_err { OnErr result (fed_of self.new ≡ fed_of self.old) }
+    {
+        self.read_held()?;
+        if self.hold(piece) {
+            return Ok(());
+        }
+        self.read_piece(piece)
+    }
+
     /// Adds a piece to the text, which may be cut anywhere, also within a character. All pieces together have at most
-    /// 67,108,864 bytes. It takes no memory.
+    /// 67,108,864 bytes. It takes no memory. Small pieces may be held until some more have come: then a later call, at the
+    /// latest `finish`, tells why the text isn't good.
     ///
     /// # Errors
     ///
@@ -122,7 +213,12 @@ impl<'h> Stream<'h> {
     {
         match self.fault {
             Some(fault) => Err(fault),
-            None => self.advance(piece),
+            None => {
+                if self.hold(piece) {
+                    return Ok(());
+                }
+                self.advance(piece)
+            }
         }
     }
 
@@ -133,6 +229,27 @@ impl<'h> Stream<'h> {
             ≡ length text }
     {
         self.fed
+    }
+
+    /// Ends the text of a stream without a fault.
+    fn ended(self) -> Result<bool, StreamFault>
+        requires { fault_found self ≡ None }
+        ensures ok { (x : g.Grammar) (text : List ℕ) → StandsFor x self.entry text
+            → IfOk result (λ b. (h : RawTrees) × IsGood text h
+            × (IsTrue b ↔ IsValid x (stripped h))) }
+        ensures fault { (x : g.Grammar) (text : List ℕ) → StandsFor x self.entry text
+            → IfErr result (λ e. IsFaultOf text e) }
+    {
+        let mut stream = self;
+        stream.read_held()?;
+        let Stream {
+            mut reader,
+            cut,
+            held: _,
+            fed,
+            fault: _,
+        } = stream;
+        finished(&mut reader, cut, fed)
     }
 
     /// Ends the text, and tells whether its document is valid (RELAX NG, 6). It takes no memory.
@@ -158,15 +275,9 @@ impl<'h> Stream<'h> {
             ≡ Err (fault_by cause place) }
         ensures again { (e : StreamFault) → fault_found self.entry ≡ Some e → result ≡ Err e }
     {
-        let Stream {
-            mut reader,
-            cut,
-            fed,
-            fault,
-        } = self;
-        match fault {
+        match self.fault {
             Some(fault) => Err(fault),
-            None => finished(&mut reader, cut, fed),
+            None => self.ended(),
         }
     }
 }

@@ -6,7 +6,7 @@ ghost use Rattle.tc_model.specs.Grammars as g;
 ghost use Rattle.tc_model.specs.XmlTextReferences.{is_plain};
 ghost use Rattle.tc_stream.specs.Faults.{IsFaultOfFront};
 ghost use Rattle.tc_stream.specs.Keeps.{IsReady};
-ghost use Rattle.tc_stream.specs.Named.{IsNameAlone, IsStartOf};
+ghost use Rattle.tc_stream.specs.Named.{IsStartOf, IsTagOf};
 ghost use Rattle.tc_stream.specs.Reading.{FaultsOn, IsOpen, ReadsOn};
 ghost use Rattle.tc_stream.specs.Stands.{IsReading};
 ghost use Rattle.tc_stream.specs.TagStands.{IsStartTag, StandsBehind, TagStands};
@@ -19,14 +19,13 @@ use crate::reading::place_of;
 use crate::tag_reading::{Scanned, no_element_fault, scan_tag, start};
 use tc_base::limits::LONGEST_TAG;
 use tc_scan::{after_byte, after_mark, first_char, is_ncname_start, ncname};
-use tc_tags::{Form, Span, WrittenName};
 
-/// A start tag or an empty-element tag that stands whole at the front: how many bytes it has, and its form if it is a
-/// name alone.
+/// A start tag or an empty-element tag that stands whole at the front: how many bytes it has, and its name if it is a
+/// local name alone.
 #[derive(Clone, Copy)]
-struct WholeStart {
+struct WholeStart<'t> {
     count: usize,
-    named: Option<Form>,
+    named: Option<&'t str>,
 }
 
 /// What follows these bytes, where others begin with them.
@@ -58,7 +57,7 @@ fn plain_end(text: &str, name: &[u8]) -> Option<usize>
 }
 
 /// The start tag or empty-element tag at the front, if it ends there and isn't too long.
-fn any_start(text: &str) -> Option<WholeStart>
+fn any_start(text: &str) -> Option<WholeStart<'_>>
     ensures { IfSome result (IsStartOf text.now) }
 {
     let (first, _) = first_char(after_byte(text, b'<')?)?;
@@ -77,7 +76,7 @@ fn any_start(text: &str) -> Option<WholeStart>
 }
 
 /// The start tag at the front, if it is a name without a prefix and nothing else.
-fn named_start(text: &str) -> Option<WholeStart>
+fn named_start(text: &str) -> Option<WholeStart<'_>>
     ensures { IfSome result (IsStartOf text.now) }
 {
     let (name, behind) = ncname(after_byte(text, b'<')?)?;
@@ -86,60 +85,24 @@ fn named_start(text: &str) -> Option<WholeStart>
     if count > LONGEST_TAG {
         return None;
     }
-    let prefix = Span {
-        start: 1,
-        length: 0,
-    };
-    let local = Span {
-        start: 1,
-        length: name.len(),
-    };
-    let form = Form {
-        name: WrittenName { prefix, local },
-        is_empty: false,
-    };
     Some(WholeStart {
         count,
-        named: Some(form),
+        named: Some(name),
     })
 }
 
-/// Goes into the element whose tag this is, a name alone, which stands at a place.
-fn start_named(
-    elements: &mut Elements<'_>,
-    tag: &str,
-    form: &Form,
-    begun: u32,
-) -> Result<(), StreamFault>
-    requires ready { IsReady elements.old }
-    requires room { length elements.old.levels.items < DEEPEST_NESTING }
-    requires short { length tag.now ≤ LONGEST_TAG }
-    requires named { IsNameAlone tag.now form.now }
-    ensures ready { IfOk result (λ _. IsReady elements.new) }
-    ensures ok { (x : g.Grammar) (chars : List ℕ) → TagStands x elements.old begun tag.now chars
-        → IfOk result (λ _. StandsBehind x elements.new chars) }
-    ensures fault { (x : g.Grammar) (chars : List ℕ)
-        → TagStands x elements.old begun tag.now chars
-        → IfErr result (λ e. IsFaultOfFront chars e) }
-{
-    match elements.enter_named(tag, form) {
-        Ok(()) => Ok(()),
-        Err(reason) => Err(no_element_fault(reason, begun)),
-    }
-}
-
-/// Goes into the element whose tag this is, by its form if it is a name alone.
+/// Goes into the element whose tag this is, by its name if it is a local name alone.
 fn start_by(
     elements: &mut Elements<'_>,
     tag: &str,
-    named: &Option<Form>,
+    named: Option<&str>,
     begun: u32,
 ) -> Result<(), StreamFault>
     requires ready { IsReady elements.old }
     requires room { length elements.old.levels.items < DEEPEST_NESTING }
     requires low { begun ≤ LONGEST_FILE }
     requires short { length tag.now ≤ LONGEST_TAG }
-    requires named { IfSome named.now (λ f. IsNameAlone tag.now f) }
+    requires named { IfSome named (λ name. IsTagOf name.now tag.now) }
     ensures ready { IfOk result (λ _. IsReady elements.new) }
     ensures ok { (x : g.Grammar) (chars : List ℕ) → IsStartTag tag.now
         → TagStands x elements.old begun tag.now chars
@@ -149,7 +112,10 @@ fn start_by(
         → IfErr result (λ e. IsFaultOfFront chars e) }
 {
     match named {
-        Some(form) => start_named(elements, tag, form, begun),
+        Some(name) => match elements.enter_named(name) {
+            Ok(()) => Ok(()),
+            Err(reason) => Err(no_element_fault(reason, begun)),
+        },
         None => start(elements, tag, begun),
     }
 }
@@ -164,7 +130,7 @@ impl Reader<'_> {
 
     /// The start tag or empty-element tag at the front, if it ends there and isn't too long, and an element may stand
     /// within those that are open.
-    fn start_at(&self, text: &str) -> Option<WholeStart>
+    fn start_at<'t>(&self, text: &'t str) -> Option<WholeStart<'t>>
         ensures tag { IfSome result (IsStartOf text.now) }
         ensures room { IfSome result
             (λ _. length self.now.elements.levels.items < DEEPEST_NESTING) }
@@ -197,7 +163,7 @@ impl Reader<'_> {
         &mut self,
         text: &'t str,
         end: u32,
-        tag: &WholeStart,
+        tag: &WholeStart<'_>,
     ) -> Result<&'t str, StreamFault>
         requires ready { IsReading self.old }
         requires open_here { IsOpen self.old }
@@ -210,7 +176,7 @@ impl Reader<'_> {
         ensures fault { IfErr result (λ e. FaultsOn self.old text.now end e) }
     {
         let (front, rest) = text.split_at(tag.count);
-        start_by(&mut self.elements, front, &tag.named, place_of(end, text))?;
+        start_by(&mut self.elements, front, tag.named, place_of(end, text))?;
         self.leave_tag();
         Ok(rest)
     }

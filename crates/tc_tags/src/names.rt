@@ -68,8 +68,9 @@ impl Room {
         self.most - self.bytes.len()
     }
 
-    /// Adds bytes, if there is room for all; whether there was.
-    pub fn push_all(&mut self, bytes: &[u8]) -> bool
+    /// The same as `push_all`, whatever the bytes are.
+    #[inline(never)]
+    fn push_some(&mut self, bytes: &[u8]) -> bool
         ensures most { self.new.most ≡ self.old.most }
         ensures bytes { MatchBool result
             (self.new.bytes.items ≡ self.old.bytes.items ++ bytes.now)
@@ -85,6 +86,21 @@ impl Room {
         }
     }
 
+    /// Adds bytes, if there is room for all; whether there was.
+    #[inline(always)]
+    pub fn push_all(&mut self, bytes: &[u8]) -> bool
+        ensures most { self.new.most ≡ self.old.most }
+        ensures bytes { MatchBool result
+            (self.new.bytes.items ≡ self.old.bytes.items ++ bytes.now)
+            ((self.new.bytes.items ≡ self.old.bytes.items)
+            × (self.old.most < length self.old.bytes.items + length bytes.now)) }
+    {
+        if bytes.len() == 1 {
+            return self.push(bytes[0]);
+        }
+        self.push_some(bytes)
+    }
+
     /// Adds characters, if there is room for all; whether there was.
     pub fn push_str(&mut self, text: &str) -> bool
         ensures most { self.new.most ≡ self.old.most }
@@ -97,6 +113,7 @@ impl Room {
     }
 
     /// Adds a byte, if there is room; whether there was.
+    #[inline(always)]
     pub fn push(&mut self, byte: u8) -> bool
         ensures most { self.new.most ≡ self.old.most }
         ensures bytes { MatchBool result
@@ -104,7 +121,13 @@ impl Room {
             ((self.new.bytes.items ≡ self.old.bytes.items)
             × (self.old.most < length self.old.bytes.items + 1)) }
     {
-        self.push_all(&[byte])
+        if self.left() == 0 {
+            return false;
+        }
+        match self.bytes.push(byte) {
+            Ok(()) => true,
+            Err(_) => false,
+        }
     }
 
     /// Keeps the first so many.

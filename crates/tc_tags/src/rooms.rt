@@ -283,4 +283,28 @@ impl Rooms {
             }
         }
     }
+
+    /// The expanded name of an element that is written without a prefix (Namespaces in XML 1.0, 6.2).
+    pub fn unprefixed<'n>(&'n self, local: &'n str) -> Name<'n>
+        requires { self.now.scopes.chains.chains
+            ≡ chains_in self.now.names.bytes.items self.now.scopes.declared.items }
+        ensures { (scope : List Binding)
+            → ((prefix uri : List ℕ)
+            → bound_by (reverse self.now.scopes.declared.items) self.now.names.bytes.items prefix
+            ≡ Some uri → IsUtf8 uri)
+            → Binds
+            (map (binding_in self.now.names.bytes.items) self.now.scopes.declared.items) scope
+            → xml.ElementName scope (record {
+              prefix = [];
+              local = local.now;
+            }) (seen.name result) }
+    {
+        match self.scopes.bound(&self.names, &[]) {
+            Some(bound) => Name {
+                uri: text_of(bound.named(&self.names)),
+                local,
+            },
+            None => Name { uri: "", local },
+        }
+    }
 }

@@ -1,114 +1,15 @@
--- Character data: how much of it stands for itself, by blocks, and what it lacks.
-use Rattle.std.proofs.Common.{◌≡◌, ◌≢◌, ℕ, zero, suc, ◌+◌, ◌%◌, ◌^◌, ◌<◌, ◌≤◌, Bool, true, false, cond, eqb, ltb, not, ◌||◌, ◌==◌, List, [], ◌∷◌, ◌++◌, map, length, take, drop, get_or, codes, replicate, bit_or, refl, ap, ◌∙◌, sym, subst, arith, take-append-drop, length-drop}
+-- Character data: what stands for itself, and what it lacks.
+use Rattle.std.proofs.Common.{◌≡◌, ◌≢◌, ℕ, ◌+◌, ◌<◌, ◌≤◌, Bool, true, false, cond, ltb, not, ◌||◌, ◌==◌, List, [], ◌∷◌, length, take, drop, get_or, codes, refl, ap, ◌∙◌, sym, subst, arith}
 use Rattle.std.specs.List.{prefix_len}
 use Rattle.std.specs.Cmp.Lexicographic.{bytes_decides}
-use Rattle.std.proofs.lemmas.Bool.{true≢false, eqb-true, eq-eqb, ltb-true, ltb-false, false_from_ne_true}
-use Rattle.std.proofs.lemmas.List.{length-map, length-take-le, drop-drop, get_or-take}
-use Rattle.std.proofs.lemmas.List.Folds.{prefix_len-append}
+use Rattle.std.proofs.lemmas.Bool.{true≢false, eqb-true, ltb-true, ltb-false, false_from_ne_true}
+use Rattle.std.proofs.lemmas.List.{length-take-le, get_or-take}
 use Rattle.std.proofs.lemmas.List.Sums.{prefix_len_is, prefix_len_passes, prefix_len_stops, prefix_len-le-length}
-use Rattle.std.proofs.lemmas.Simd.{mask_l-mod, leading_from_mask_l, trailing_mask_l}
-use lib.Count.{count_trailing_zeros}
-use lib.Lanes.{zip2, mask_l, top}
 use Rattle.tc_model.specs.XmlTextBytes.{begins_with, length_before, UpTo, Lacks, line_ends}
 use Rattle.tc_model.specs.XmlTextReferences.{CharacterDataAt, is_plain}
 use Rattle.tc_scan.proofs.FrontLaws.{stands_at, found as mark_found}
 use Rattle.tc_xml.proofs.LineLaws.{not_return, lines_end}
-use Rattle.tc_xml.specs.CharacterData.{is_clear}
-
-abbrev is_mark : ℕ → Bool
-is_mark b = b == 0x3C || b == 0x26 || b == 0x5D || b == 0xD
-
-abbrev pub same : ℕ → ℕ → ℕ
-same a b = cond (eqb a b) 255 0
-
--- the lanes of a block of so many bytes that tell
-abbrev pub marks : ℕ → List ℕ → List ℕ
-marks n xs =
-    zip2 bit_or (zip2 bit_or (zip2 same xs (replicate n 60)) (zip2 same xs (replicate n 38))) (zip2 bit_or (zip2 same xs (replicate n 93)) (zip2 same xs (replicate n 13)))
-
-mark_lane : (x : ℕ) → top 7 (bit_or (bit_or (same x 60) (same x 38)) (bit_or (same x 93) (same x 13))) ≡ is_mark x
-mark_lane x = by (eqb x 60) (eqb x 38) (eqb x 93) (eqb x 13)
-  where
-    by : (a b c d : Bool) → top 7 (bit_or (bit_or (cond a 255 0) (cond b 255 0)) (bit_or (cond c 255 0) (cond d 255 0))) ≡ (a || b || c || d)
-    by true true true true = refl
-    by true true true false = refl
-    by true true false true = refl
-    by true true false false = refl
-    by true false true true = refl
-    by true false true false = refl
-    by true false false true = refl
-    by true false false false = refl
-    by false true true true = refl
-    by false true true false = refl
-    by false true false true = refl
-    by false true false false = refl
-    by false false true true = refl
-    by false false true false = refl
-    by false false false true = refl
-    by false false false false = refl
-
-mark_lanes : (xs : List ℕ) → map (top 7) (marks (length xs) xs) ≡ map is_mark xs
-mark_lanes [] = refl
-mark_lanes (x ∷ xs) = ap (λ b. b ∷ map (top 7) (marks (length xs) xs)) (mark_lane x) ∙ ap (λ w. is_mark x ∷ w) (mark_lanes xs)
-
-found : (xs : List ℕ) → length xs ≡ 32 → mask_l (map (top 7) (marks 32 xs)) % 2 ^ 64 ≡ mask_l (map is_mark xs)
-found xs long =
-    ap (λ w. mask_l w % 2 ^ 64) (ap (λ n. map (top 7) (marks n xs)) (sym long) ∙ mark_lanes xs)
-    ∙ mask_l-mod (map is_mark xs) 64 (omega (arith, length-map xs is_mark, long))
-
--- no byte of a block tells
-pub none_marked : (xs : List ℕ) → length xs ≡ 32 → mask_l (map (top 7) (marks 32 xs)) % 2 ^ 64 ≡ 0 → 32 ≡ prefix_len is_clear xs
-none_marked xs long e = sym long ∙ sym (leading_from_mask_l is_mark xs (sym (found xs long) ∙ e))
-
--- the first that does
-pub first_marked : (xs : List ℕ) → length xs ≡ 32 → (mask_l (map (top 7) (marks 32 xs)) % 2 ^ 64 ≡ 0 → ⊥) → count_trailing_zeros 64 (mask_l (map (top 7) (marks 32 xs)) % 2 ^ 64) ≡ prefix_len is_clear xs
-first_marked xs long e =
-    let some : mask_l (map is_mark xs) ≡ 0 → ⊥ = λ z. e (found xs long ∙ z) in
-    ap (count_trailing_zeros 64) (found xs long) ∙ trailing_mask_l is_mark 64 xs (omega (arith, long)) (positive (mask_l (map is_mark xs)) some)
-  where
-    positive : (n : ℕ) → (n ≡ 0 → ⊥) → 0 < n
-    positive zero h = absurd (h refl)
-    positive (suc n) h = omega arith
-
--- ---- what blocks are joined to
-
-front_full : (xs ys : List ℕ) → length xs ≡ 32 → 32 ≡ prefix_len is_clear xs → prefix_len is_clear (xs ++ ys) ≡ 32 + prefix_len is_clear ys
-front_full xs ys long e =
-    prefix_len-append is_clear xs ys
-    ∙ (ap (λ b. cond b (length xs + prefix_len is_clear ys) (prefix_len is_clear xs)) (eq-eqb (prefix_len is_clear xs) (length xs) (sym e ∙ sym long)) ∙ ap (λ n. n + prefix_len is_clear ys) long)
-
-front_short : (xs ys : List ℕ) → length xs ≡ 32 → prefix_len is_clear xs < 32 → prefix_len is_clear (xs ++ ys) ≡ prefix_len is_clear xs
-front_short xs ys long l = prefix_len-append is_clear xs ys ∙ by (eqb (prefix_len is_clear xs) (length xs)) refl
-  where
-    by : (b : Bool) → eqb (prefix_len is_clear xs) (length xs) ≡ b → cond b (length xs + prefix_len is_clear ys) (prefix_len is_clear xs) ≡ prefix_len is_clear xs
-    by true e = absurd (omega (arith, eqb-true _ _ e, long, l))
-    by false e = refl
-
--- one more block of them
-pub past_block : (bytes : List ℕ) (at : ℕ) → at + prefix_len is_clear (drop at bytes) ≡ prefix_len is_clear bytes → at + 32 ≤ length bytes → prefix_len is_clear (take 32 (drop at bytes)) ≡ 32
-    → at + 32 + prefix_len is_clear (drop (at + 32) bytes) ≡ prefix_len is_clear bytes
-past_block bytes at h l b =
-    let block = take 32 (drop at bytes) in
-    let behind = drop 32 (drop at bytes) in
-    let long : length block ≡ 32 = length-take-le 32 (drop at bytes) (omega (arith, length-drop at bytes)) in
-    let split : prefix_len is_clear (drop at bytes) ≡ 32 + prefix_len is_clear behind =
-    ap (prefix_len is_clear) (sym (take-append-drop 32 (drop at bytes))) ∙ front_full block behind long (sym b) in
-    let same : prefix_len is_clear behind ≡ prefix_len is_clear (drop (at + 32) bytes) = ap (prefix_len is_clear) (drop-drop 32 at bytes) in
-    omega (arith, h, split, same)
-
--- a block with another byte
-pub within_block : (bytes : List ℕ) (at : ℕ) → at + prefix_len is_clear (drop at bytes) ≡ prefix_len is_clear bytes → at + 32 ≤ length bytes → prefix_len is_clear (take 32 (drop at bytes)) < 32
-    → at + prefix_len is_clear (take 32 (drop at bytes)) ≡ prefix_len is_clear bytes
-within_block bytes at h l b =
-    let block = take 32 (drop at bytes) in
-    let behind = drop 32 (drop at bytes) in
-    let long : length block ≡ 32 = length-take-le 32 (drop at bytes) (omega (arith, length-drop at bytes)) in
-    let split : prefix_len is_clear (drop at bytes) ≡ prefix_len is_clear block =
-    ap (prefix_len is_clear) (sym (take-append-drop 32 (drop at bytes))) ∙ front_short block behind long b in
-    omega (arith, h, split)
-
-pub block_within : (xs : List ℕ) (n : ℕ) → length xs ≡ 32 → n ≡ prefix_len is_clear xs → n ≤ 32
-block_within xs n long e = omega (arith, long, e, prefix_len-le-length is_clear xs)
+use Rattle.tc_scan.specs.Blocks.{is_clear}
 
 -- ---- runs
 

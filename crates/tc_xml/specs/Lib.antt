@@ -9,4 +9,3 @@ pub mod Taking
 pub mod Building
 pub mod Bindings
 pub mod PlainTags
-pub mod CharacterData

@@ -1,48 +1,11 @@
 // Character data (XML 1.0, 2.4).
 // Most of it stands for itself up to the next markup, which is found 32 bytes at once. What has a `]`, with which `]]>`
 // would begin, or a CR, which is a line end that changes, is looked at again.
-ghost use Rattle.std.specs.Prelude.{◌≡◌, ◌≤◌, ℕ, List, length, not, IfSome, MatchOption};
-ghost use Rattle.std.specs.List.{prefix_len};
+ghost use Rattle.std.specs.Prelude.{◌≡◌, ℕ, List, not, IfSome, MatchOption};
 ghost use Rattle.tc_model.specs.XmlTextBytes as bytes;
 ghost use Rattle.tc_model.specs.XmlTextReferences as xml;
-ghost use Rattle.tc_xml.specs.CharacterData.{is_clear};
 
-use std::simd::prelude::*;
-use tc_scan::{plain_len, up_to};
-
-/// How many bytes are looked at at once.
-const BLOCK: usize = 32;
-
-/// How many bytes of a block stand before its first `<`, `&`, `]` or CR.
-#[inline(always)]
-fn block_len(block: u8x32) -> usize
-    ensures count { result ≡ prefix_len is_clear block }
-    ensures within { result ≤ 32 }
-{
-    let markup = block.simd_eq(u8x32::splat(b'<')) | block.simd_eq(u8x32::splat(b'&'));
-    let others = block.simd_eq(u8x32::splat(b']')) | block.simd_eq(u8x32::splat(b'\r'));
-    let found = (markup | others).to_bitmask();
-    if found == 0 {
-        BLOCK
-    } else {
-        found.trailing_zeros() as usize
-    }
-}
-
-/// How many bytes stand before the first `<`, `&`, `]` or CR, where a whole block begins before that.
-fn clear_len(bytes: &[u8]) -> Option<usize>
-    ensures { IfSome result (λ n. n ≡ prefix_len is_clear bytes.now) }
-{
-    let mut at = 0;
-    while bytes.len() - at >= BLOCK {
-        let count = block_len(u8x32::from_slice(&bytes[at..]));
-        if count < BLOCK {
-            return Some(at + count);
-        }
-        at += BLOCK;
-    }
-    None
-}
+use tc_scan::{clear_len, plain_len, up_to};
 
 /// Whether a run of characters ends before this byte.
 fn ends_run(byte: u8) -> bool

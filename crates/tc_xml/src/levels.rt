@@ -53,6 +53,7 @@ impl<'b> Levels<'b> {
     }
 
     /// Reads the tag at the front, whose name isn't remembered.
+    #[inline(never)]
     fn learn_tag(&mut self, arena: &'b Bump, text: &'b str) -> Option<Tag<'b>>
         ensures shorter { IfSome result (λ tag. length tag.rest.now < length text.now) }
         ensures reads { AreRight (now_bound self.old.bindings) self.old.spelled → IfSome result
@@ -71,6 +72,7 @@ impl<'b> Levels<'b> {
     }
 
     /// Takes back all declarations but the first so many.
+    #[inline(always)]
     pub(crate) fn take_back(&mut self, count: usize) -> Option<()>
         ensures bindings { IfSome result
             (λ _. TakesBack self.old.bindings count self.new.bindings) }
@@ -87,6 +89,7 @@ impl<'b> Levels<'b> {
     }
 
     /// Reads the tag at the front, where an element may start, up to where it ends, and binds what it declares.
+    #[inline(always)]
     pub(crate) fn read_tag(&mut self, arena: &'b Bump, text: &'b str) -> Option<Tag<'b>>
         ensures deep { IfSome result (λ _. 0 < self.old.depth) }
         ensures shorter { IfSome result (λ tag. length tag.rest.now < length text.now) }

@@ -33,6 +33,9 @@ use tc_model::normal::{Run, extended, text_of};
 use tc_model::{Name, TakesTrees, is_white_space_only};
 use tc_scan::{QualifiedName, after_byte, characters};
 
+/// How many bytes more than twice its length a copy of characters has room for.
+const ROOM: usize = 64;
+
 /// What takes a document's trees, and the run of characters that isn't handed on yet.
 #[derive(Drop)]
 struct Reader<'b, T> {
@@ -41,13 +44,23 @@ struct Reader<'b, T> {
     run: Run<'b>,
 }
 
+/// A copy of characters, with room for about as many more.
+fn copy_of<'b>(arena: &'b Bump, text: &str) -> Option<String<&'b Bump>>
+    ensures { IfSome result (λ s. string_bytes s ≡ text.now) }
+{
+    let room = text.len().saturating_mul(2).saturating_add(ROOM);
+    let mut copy = String::with_capacity(arena, room).ok()?;
+    copy.push_str(text).ok()?;
+    Some(copy)
+}
+
 /// The characters of a run, to which more may be added.
 fn open_run<'b>(arena: &'b Bump, run: Run<'b>) -> Option<String<&'b Bump>>
     ensures { IfSome result (λ s. string_bytes s ≡ run_text run.entry) }
 {
     match run {
         Run::Nothing => Some(String::new(arena)),
-        Run::One(text) => String::from_str(arena, text).ok(),
+        Run::One(text) => copy_of(arena, text),
         Run::Many(text) => Some(text),
     }
 }
@@ -80,13 +93,30 @@ fn with_character<'b>(arena: &'b Bump, run: Run<'b>, more: char) -> Option<Run<'
     }
 }
 
+/// Takes the characters of a run away.
+fn taken<'b>(run: &mut Run<'b>) -> &'b str
+    ensures text { result.now ≡ run_text run.old }
+    ensures none { run_text run.new ≡ [] }
+{
+    match run {
+        Run::Nothing => "",
+        Run::One(text) => {
+            let whole = *text;
+            *run = Run::Nothing;
+            whole
+        }
+        Run::Many(_) => text_of(mem::replace(run, Run::Nothing)),
+    }
+}
+
 /// Hands on the run, unless it is white space alone.
+#[inline(always)]
 fn end_run<'b, T: TakesTrees<'b>>(reader: &mut Reader<'b, T>) -> Option<()>
     ensures taken { IfSome result (λ _. Takes T.takes reader.old.taker
         (waiting (run_text reader.old.run) none) reader.new.taker) }
     ensures ended { IfSome result (λ _. run_text reader.new.run ≡ []) }
 {
-    let text = text_of(mem::replace(&mut reader.run, Run::Nothing));
+    let text = taken(&mut reader.run);
     if is_white_space_only(text) {
         return Some(());
     }
@@ -189,6 +219,7 @@ fn start_element<'b, T: TakesTrees<'b>>(reader: &mut Reader<'b, T>, name: Name<'
 }
 
 /// Hands on the end of an element, around which so many declarations are in scope, and takes back those in it.
+#[inline(always)]
 fn leave<'b, T: TakesTrees<'b>>(
     reader: &mut Reader<'b, T>,
     levels: &mut Levels<'b>,
@@ -270,6 +301,7 @@ fn after_plain_end_tag<'t>(text: &'t str, name: &QualifiedName<'_>) -> Option<&'
 }
 
 /// What follows the end tag with the name of an element that has started, where one is at the front.
+#[inline(always)]
 fn after_end_of<'t>(text: &'t str, name: &QualifiedName<'_>) -> Option<&'t str>
     ensures ends { IfSome result (λ r. (bs past : List ℕ) → QNameAt bs (written_name name.now) past
         → EndTagAt (written_name name.now) text.now r.now) }

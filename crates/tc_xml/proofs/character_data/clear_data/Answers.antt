@@ -1,7 +1,7 @@
 use Rattle.std.specs.List.{prefix_len}
 use Rattle.std.proofs.Common.{arith, ap, sym, ◌∙◌, get_or, not}
 use Rattle.tc_model.specs.XmlTextReferences.{is_plain}
-use Rattle.tc_xml.specs.CharacterData.{is_clear}
+use Rattle.tc_scan.specs.Blocks.{is_clear}
 use Rattle.tc_xml.proofs.CharacterDataLaws.{clear_run}
 use Rattle.tc_xml.proofs.character_data.clear_data.Goals as goal
 

@@ -1,4 +1,4 @@
-use Rattle.std.proofs.Common.{◌≡◌, refl, rules, false, ap, ◌∙◌, subst}
+use Rattle.std.proofs.Common.{◌≡◌, refl, rules, false, subst}
 use Rattle.std.proofs.lemmas.Option.{IfSome_then}
 use Rattle.tc_model.specs.Events.{characters}
 use Rattle.tc_model.specs.Runs.{run_text}
@@ -12,6 +12,6 @@ returns-then-is_white_space_only-clause-taken g c = white_run _ c.args.reader.no
 pub returns-clause-taken : goal.returns-clause-taken
 returns-clause-taken g c =
     let white : is_white_space_only (run_text c.args.reader.now.run) ≡ false = search rules in
-    let same : c.text_of-text.result.now ≡ run_text c.args.reader.now.run = c.text_of-text.ensures ∙ ap run_text c.replace.ensures.value in
+    let same : c.taken-text.result.now ≡ run_text c.args.reader.now.run = c.taken-text.ensures.text in
     IfSome_then c.text.result c.text.ensures
     (λ x o. other_run _ c.args.reader.now.taker c.text.new.self (run_text c.args.reader.now.run) white (subst (λ s. g.T.TakesTrees.takes c.args.reader.now.taker (characters s) c.text.new.self) same o))

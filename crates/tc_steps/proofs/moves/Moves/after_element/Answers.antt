@@ -2,17 +2,12 @@ use Rattle.std.proofs.Common.{sym, subst}
 use Rattle.tc_steps.specs.Moving.{IsAfterElement}
 use Rattle.tc_steps.specs.declared.known_sets.States.{States}
 use Rattle.tc_steps.specs.declared.known_sets.States.TheVariants.{Numbered}
-use Rattle.tc_steps.proofs.MovingLaws.{keeps_remembered, element_remembered, element_step, element_moved}
+use Rattle.tc_steps.proofs.MovingLaws.{keeps_remembered, element_step, element_moved}
 use Rattle.tc_steps.proofs.moves.Moves.after_element.Goals as goal
-
-pub returns-in-Some-clause-after : goal.returns-in-Some-clause-after
-returns-in-Some-clause-after c = λ x right met.
-    subst (λ (z : States). IsAfterElement x c.args.self.now c.args.inner.now z (Numbered c.in-Some.to)) (sym c.in-Numbered-Numbered.is-0)
-    (element_remembered x c.args.self.now c.args.inner.now c.in-Numbered-Numbered.number c.in-Numbered-Numbered.ends c.in-Some.to c.in-Numbered-Numbered.is-1 (c.in-Some.ensures x _ _ right.steps))
 
 pub returns-clause-keeps : goal.returns-clause-keeps
 returns-clause-keeps c = λ x right met.
-    let mid = c.learn_element-2.new.self in
+    let mid = c.learn_element.new.self in
     let number = c.in-Numbered-Numbered.number in
     keeps_remembered x c.args.self.now mid c.remember.new.self c.remember.ensures.steps c.remember.ensures.sets
     (λ r. c.remember.ensures.right x r (λ k is. element_step x mid c.args.inner.now number c.in-Numbered-Numbered.ends k c.in-Numbered-Numbered.is-1
@@ -21,4 +16,4 @@ returns-clause-keeps c = λ x right met.
 
 pub returns-clause-after : goal.returns-clause-after
 returns-clause-after c = λ x right met.
-    element_moved x c.learn_element-2.new.self c.remember.new.self c.args.inner.now c.args.from.now c.in_ok-to.to c.remember.ensures.sets c.remember.ensures.steps (c.in_ok-to.ensures.after x right met)
+    element_moved x c.learn_element.new.self c.remember.new.self c.args.inner.now c.args.from.now c.in_ok-to.to c.remember.ensures.sets c.remember.ensures.steps (c.in_ok-to.ensures.after x right met)

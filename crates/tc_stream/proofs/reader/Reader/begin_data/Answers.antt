@@ -1,8 +1,9 @@
-use Rattle.std.proofs.Common.{◌≡◌, ◌+◌, inl, refl, ap, arith, sym, ◌∙◌, subst, length}
-use Rattle.tc_stream.specs.Reading.{FaultsOn}
+use Rattle.std.proofs.Common.{◌≡◌, ◌+◌, inl, inr, refl, ap, arith, sym, ◌∙◌, subst, length}
+use Rattle.std.proofs.lemmas.Result.{IfErr-weaker, IfOk-weaker}
+use Rattle.tc_stream.specs.Reading.{FaultsOn, ReadsOn}
 use Rattle.tc_stream.specs.Scans.{cdata_scan}
-use Rattle.tc_stream.proofs.DataReads.{at_front, at_front_less, begun_text, begun_text_faults, cut_at_mark}
-use Rattle.tc_stream.proofs.ReadingLaws.{failed}
+use Rattle.tc_stream.proofs.DataReads.{at_front, at_front_less, bare_behind, begun_text, begun_text_faults, cut_at_mark}
+use Rattle.tc_stream.proofs.ReadingLaws.{failed, fault_then, read_then}
 use Rattle.tc_tags.proofs.FailedLaws.{failed_ok}
 use Rattle.tc_stream.proofs.reader.Reader.begin_data.Goals as goal
 
@@ -35,10 +36,40 @@ returns-clause-ok c =
     let within = c.requires.within in
     let fits : c.place_of-self.result + length c.args.text.now ≡ c.args.end = omega (arith, place, within) in
     let ok = c.in_ok-read_run.ensures.ok in
-    begun_text c.args.end c.place_of-self.result ok.0 front c.requires.part c.requires.content c.requires.ready ok.2 refl c.in_ok-read_run.ensures.elements ok.1 c.in_ok-read_run.ensures.phase c.in_ok-read_run.ensures.begun fits
+    let first : ReadsOn c.args.self.now c.read_run.new.self c.args.text.now c.split_at.result.1.now c.args.end =
+    begun_text c.args.end c.place_of-self.result ok.0 front c.requires.part c.requires.content c.requires.ready ok.2 refl c.in_ok-read_run.ensures.elements ok.1 c.in_ok-read_run.ensures.phase c.in_ok-read_run.ensures.begun fits in
+    IfOk-weaker c.read_behind.result _ _ (λ rest on. read_then first on) c.read_behind.ensures.ok
+
+pub returns-clause-fault : goal.returns-clause-fault
+returns-clause-fault c =
+    let front = at_front c.run_at-front.result.count c.run_at-front.ensures.count c.if-count-eq0.false c.split_at.ensures.front c.split_at.ensures.back in
+    let place = c.place_of-self.ensures in
+    let within = c.requires.within in
+    let fits : c.place_of-self.result + length c.args.text.now ≡ c.args.end = omega (arith, place, within) in
+    let ok = c.in_ok-read_run.ensures.ok in
+    let first : ReadsOn c.args.self.now c.read_run.new.self c.args.text.now c.split_at.result.1.now c.args.end =
+    begun_text c.args.end c.place_of-self.result ok.0 front c.requires.part c.requires.content c.requires.ready ok.2 refl c.in_ok-read_run.ensures.elements ok.1 c.in_ok-read_run.ensures.phase c.in_ok-read_run.ensures.begun fits in
+    IfErr-weaker c.read_behind.result _ _ (λ e no. fault_then e first no) c.read_behind.ensures.fault
 
 pub returns-clause-less : goal.returns-clause-less
-returns-clause-less c = at_front_less (at_front c.run_at-front.result.count c.run_at-front.ensures.count c.if-count-eq0.false c.split_at.ensures.front c.split_at.ensures.back)
+returns-clause-less c =
+    let shorter = at_front_less (at_front c.run_at-front.result.count c.run_at-front.ensures.count c.if-count-eq0.false c.split_at.ensures.front c.split_at.ensures.back) in
+    IfOk-weaker c.read_behind.result _ _ (λ rest low. omega (arith, low, shorter)) c.read_behind.ensures.less
+
+pub read_behind-requires-clause-ready : goal.read_behind-requires-clause-ready
+read_behind-requires-clause-ready c = c.in_ok-read_run.ensures.elements.ready c.requires.ready
+
+pub read_behind-requires-clause-open_here : goal.read_behind-requires-clause-open_here
+read_behind-requires-clause-open_here c = inr (c.in_ok-read_run.ensures.ok.0, c.in_ok-read_run.ensures.ok.1)
+
+pub read_behind-requires-clause-bare : goal.read_behind-requires-clause-bare
+read_behind-requires-clause-bare c = bare_behind c.args.text.now c.split_at.result.1.now c.run_at-front.result.count c.run_at-front.ensures.count c.split_at.ensures.back
+
+pub read_behind-requires-clause-within : goal.read_behind-requires-clause-within
+read_behind-requires-clause-within c =
+    let shorter = at_front_less (at_front c.run_at-front.result.count c.run_at-front.ensures.count c.if-count-eq0.false c.split_at.ensures.front c.split_at.ensures.back) in
+    let within = c.requires.within in
+    omega (arith, shorter, within)
 
 pub begin_reference-requires-clause-ready : goal.begin_reference-requires-clause-ready
 begin_reference-requires-clause-ready c = c.requires.ready
@@ -66,6 +97,3 @@ returns-in_err-read_run-clause-ok c = failed_ok _ _ _ c.from_residual.ensures.1
 
 pub returns-in_err-read_run-clause-less : goal.returns-in_err-read_run-clause-less
 returns-in_err-read_run-clause-less c = failed_ok _ _ _ c.from_residual.ensures.1
-
-pub returns-clause-fault : goal.returns-clause-fault
-returns-clause-fault c = tt

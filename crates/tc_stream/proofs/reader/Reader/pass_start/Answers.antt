@@ -10,8 +10,7 @@ use Rattle.tc_stream.proofs.TagReads.{failed, front_chars, front_fault, shorter_
 use Rattle.tc_stream.proofs.WholeTagReads.{reads_at, start_cut, start_tag_begins}
 use Rattle.tc_tags.proofs.FailedLaws.{failed_ok}
 use Rattle.std.specs.Prelude.{IfSome}
-use Rattle.tc_stream.specs.Named.{IsNameAlone}
-use Rattle.tc_tags.specs.declared.tags.Form.{Form}
+use Rattle.tc_stream.specs.Named.{IsTagOf}
 use Rattle.tc_stream.proofs.reader.Reader.pass_start.Goals as goal
 
 pub split_at-requires : goal.split_at-requires
@@ -63,4 +62,4 @@ pub returns-clause-fault : goal.returns-clause-fault
 returns-clause-fault c = tt
 
 pub start_by-requires-clause-named : goal.start_by-requires-clause-named
-start_by-requires-clause-named c = subst (λ z. IfSome c.args.tag.now.named (λ (f : Form). IsNameAlone z f)) (sym c.split_at.ensures.front) c.requires.tag.named
+start_by-requires-clause-named c = subst (λ z. IfSome c.args.tag.now.named (λ name. IsTagOf name.now z)) (sym c.split_at.ensures.front) c.requires.tag.named

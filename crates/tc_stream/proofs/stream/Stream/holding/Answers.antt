@@ -1,6 +1,6 @@
-use Rattle.std.proofs.Common.{[], inl, refl, sym}
+use Rattle.std.proofs.Common.{◌∙◌, ◌++◌, [], ap, inl, refl, sym}
 use Rattle.tc_tags.proofs.FailedLaws.{no_value}
-use Rattle.tc_stream.proofs.stream.Stream.new.Goals as goal
+use Rattle.tc_stream.proofs.stream.Stream.holding.Goals as goal
 
 pub returns-clause-stands : goal.returns-clause-stands
 returns-clause-stands c = λ x other sheet st start same. record {
@@ -9,7 +9,7 @@ returns-clause-stands c = λ x other sheet st start same. record {
   fed = refl;
   chars = [];
   reads = c.in_ok-reader.ensures.reads x other sheet st same;
-  parts_are = sym c.none.ensures.bytes;
+  parts_are = sym (ap (λ z. z ++ c.in_ok-held.held.bytes.items) c.none.ensures.bytes ∙ c.in_ok-held.ensures.bytes);
   cut_off = inl c.none.ensures.bytes;
 }
 
