@@ -1,7 +1,7 @@
 -- What the built-in rules and single instructions do on a node.
-use Rattle.std.proofs.Common.{◌≡◌, ℕ, ◌≤◌, List, [], refl, ap, ◌∙◌, sym, subst, Option, Some, None, Bor, arith}
+use Rattle.std.proofs.Common.{◌≡◌, ℕ, ◌≤◌, List, refl, ap, ◌∙◌, sym, subst, Option, Some, None, Bor, arith}
 use Rattle.tc_model.specs.Chains.{an_element, Node, whole, one, children, joined_texts, string_value}
-use Rattle.tc_model.specs.Machine.{in_mode, does_in, outputs, first_hit}
+use Rattle.tc_model.specs.Machine.{Machine, CallFreeJob, in_mode, does_in, outputs, first_hit}
 use Rattle.tc_model.specs.Meaning.{all_children, value_of_first}
 use Rattle.tc_model.specs.Outcomes.{Outcome, within, put, put_around, copied}
 use Rattle.tc_model.specs.Views as see
@@ -57,7 +57,7 @@ pub joined_self : (h : Context) → ((x : Bor (List ℕ)) → h.shape ≡ shapes
 joined_self h other = joined_by h.shape (bare (trees h.kids.now)) other
 
 -- some instruction
-abbrev HasOne : Body → Type 0
+abbrev pub HasOne : Body → Type 0
 HasOne no_instruction = ⊥
 HasOne (put_text x b) = Unit {0}
 HasOne (put_element n inner b) = Unit {0}
@@ -83,25 +83,27 @@ seen_by parts.ValueOfSelf = subst HasOne (sym (self_seen (roll-Instr parts.Value
 seen_by (parts.Choose bs b) = subst HasOne (sym (choose_seen (roll-Instr (parts.Choose bs b)) bs b (v.rolls-Choose bs b))) tt
 seen_by (parts.ForEach n p b) = subst HasOne (sym (for_each_seen (roll-Instr (parts.ForEach n p b)) n p b (v.rolls-ForEach n p b))) tt
 
-is_seen : (i : Instr) → IsSeen i
+pub is_seen : (i : Instr) → IsSeen i
 is_seen i = subst IsSeen (roll-out-Instr i) (seen_by (out-Instr i))
 
-module _ (r : Runner) (bodies : List CallFreeBody) (h : Context) (named : List Body) where
-  deep : (b : Body) (p : CallFreeBody) → HasOne b → Inlines named b p → 1 ≤ (does r bodies p h).nesting
-  deep no_instruction p k u = absurd k
-  deep (put_text x b) p k (u_text u) = omega arith
-  deep (put_element n i b) p k (u_element w u) = omega arith
-  deep (copy i b) p k (u_copy w u) = omega arith
-  deep (apply q m b) p k (u_apply u) = omega arith
-  deep (call n b) p k (u_call e w u) = omega arith
-  deep (value q b) p k (u_value u) = omega arith
-  deep (value_of_self b) p k (u_self u) = omega arith
-  deep (choose x b) p k (u_choose w u) = omega arith
-  deep (for_each e q i b) p k (u_each w u) = omega arith
+module _ (m : Machine) (n : Node) (outs : CallFreeJob → m.Move → Outcome) (named : List Body) where
+  pub deep_in : (b : Body) (p : CallFreeBody) → HasOne b → Inlines named b p → 1 ≤ (does_in m p n outs).nesting
+  deep_in no_instruction p k u = absurd k
+  deep_in (put_text x b) p k (u_text u) = omega arith
+  deep_in (put_element n i b) p k (u_element w u) = omega arith
+  deep_in (copy i b) p k (u_copy w u) = omega arith
+  deep_in (apply q j b) p k (u_apply u) = omega arith
+  deep_in (call n b) p k (u_call e w u) = omega arith
+  deep_in (value q b) p k (u_value u) = omega arith
+  deep_in (value_of_self b) p k (u_self u) = omega arith
+  deep_in (choose x b) p k (u_choose w u) = omega arith
+  deep_in (for_each e q i b) p k (u_each w u) = omega arith
 
+module _ (r : Runner) (bodies : List CallFreeBody) (h : Context) (named : List Body) where
   -- an instruction stands within a body
   pub one_deep : (i : Instr) (p : CallFreeBody) → Inlines named (see.instruction i no_instruction) p → 1 ≤ (does r bodies p h).nesting
-  one_deep i p u = deep (see.instruction i no_instruction) p (is_seen i) u
+  one_deep i p u =
+      deep_in (machine r bodies) (node h) (λ j w. outputs (machine r bodies) (children (node h)) j (ancestor (told_by r) h.above) w) named (see.instruction i no_instruction) p (is_seen i) u
 
   -- the value of the node that a look selects first
   pub value_same : (p : Path) (s : List ℕ) → bare (trees h.kids.now) ≡ children (node h) → s ≡ value_of_first (first_hit (looking r) (bare (trees h.kids.now)) (looking_from p))

@@ -6,16 +6,16 @@ use Rattle.tc_model.specs.Names.{ExpandedName}
 use Rattle.tc_model.specs.Outcomes.{Outcome, join, put_around}
 use Rattle.tc_model.specs.Views as see
 use Rattle.tc_model.specs.Sheets.{Body, no_instruction, CallFreeBody, p_done, Inlines, u_done}
-use Rattle.tc_model.specs.Trees.{none, element, beside}
 use Rattle.tc_model.specs.declared.sheet.Instr.{Instr}
-use Rattle.tc_model.specs.declared.tree.Node.{Node}
 use Rattle.tc_model.proofs.TotalJoin.{join_none}
 use Rattle.tc_run.specs.Running.{sheet_by}
 use Rattle.tc_run.specs.Spent.{Spends, IsPassed, Answers}
+use Rattle.tc_run.specs.Taken.{Starts, Ends}
 use Rattle.tc_run.specs.Tasks.{does}
 use Rattle.tc_run.specs.declared.RunFault.{RunFault}
 use Rattle.tc_run.specs.declared.RunFault.TheVariants.{NoMemory}
 use Rattle.tc_run.specs.declared.bodies.Context.{Context}
+use Rattle.tc_run.specs.declared.output.Outside.{Outside}
 use Rattle.tc_run.specs.declared.output.Output.{Output}
 use Rattle.tc_run.specs.declared.runner.Runner.{Runner}
 use Rattle.tc_run.proofs.Progress.{BodySoFar}
@@ -34,10 +34,9 @@ module _ (r : Runner) (bodies : List CallFreeBody) (h : Context) (nesting : ℕ)
       subst (Spends nesting old now) (sym (s.whole ∙ (ap (λ w. join s.done (does r bodies w h)) e ∙ join_none s.done))) s.spent
 
 -- going back outside an element
-pub left_around : {T : Type 0} (around : ℕ) (x inside y z : Output) (n : ExpandedName) (o : Outcome) (before : List Node) (r : Result T RunFault)
-    → before ≡ x.nodes.items → see.trees inside.nodes.items ≡ none → (inside.work ≡ x.work + 1) × (inside.work ≤ 4000000) → Spends around inside y o
-    → OnOk r (see.trees z.nodes.items ≡ beside (see.trees before) (element n (see.trees y.nodes.items) none)) → OnOk r (z.work ≡ y.work) → IfErr r (λ e. e ≡ NoMemory)
+pub left_around : {T : Type 0} (around : ℕ) (x inside y z : Output) (n : ExpandedName) (o : Outcome) (outside : Outside) (r : Result T RunFault)
+    → Starts x.taken n outside inside.taken → (inside.work ≡ x.work + 1) × (inside.work ≤ 4000000) → Spends around inside y o
+    → OnOk r (Ends y.taken n outside z.taken) → OnOk r (z.work ≡ y.work) → IfErr r (λ e. e ≡ NoMemory)
     → Answers around x z r (put_around n o)
-left_around around x inside y z n o before (Ok v) b e f s g h k =
-    spends_around around x inside y z n o e f.0 s (g ∙ ap (λ w. beside (see.trees w) (element n (see.trees y.nodes.items) none)) b) h
-left_around around x inside y z n o before (Err e) b d f s g h k = subst (λ w. IsPassed w (x.work + (put_around n o).work) (around + (put_around n o).nesting)) (sym k) tt
+left_around around x inside y z n o outside (Ok v) b f s g h k = spends_around around x inside y z n outside o b f.0 s g h
+left_around around x inside y z n o outside (Err e) b f s g h k = subst (λ w. IsPassed w (x.work + (put_around n o).work) (around + (put_around n o).nesting)) (sym k) tt

@@ -37,11 +37,11 @@ module _ (r : Runner) (node : Lettered) (is_lettered : IsLetteredBy r (before no
   text_letter s m is =
       subst (IsLetter (symbols_by r) (predicates_by r)) (sym (text_at r node s m l.none is_lettered is).letter_is) (trees_have_letters (symbols_by r) (predicates_by r) (a_text s.now))
 
-  pub element_letter : (n : Name) (x : LetterOf) (kids : Bor (List Lettered)) → node ≡ Elem n x kids
+  pub element_letter : (n : Bor Name) (x : LetterOf) (kids : Bor (List Lettered)) → node ≡ Elem n x kids
       → IsLetter (symbols_by r) (predicates_by r) (letter (kinds.Elem x.sym) x.marks)
   element_letter n x kids is =
       subst (IsLetter (symbols_by r) (predicates_by r)) (sym (element_at r node n x kids l.none is_lettered is).letter_is)
-      (trees_have_letters (symbols_by r) (predicates_by r) (an_element (name n) (bare (trees kids.now))))
+      (trees_have_letters (symbols_by r) (predicates_by r) (an_element (name n.now) (bare (trees kids.now))))
 
 module _ (r : Runner) (look : Looking) (node : Lettered) (is_lettered : IsLetteredBy r (before node l.none)) where
   -- in a text
@@ -56,14 +56,14 @@ module _ (r : Runner) (look : Looking) (node : Lettered) (is_lettered : IsLetter
       ∙ (ap (λ x. or_else (cond x hit None) None) told ∙ none_last (cond b hit None)))
 
   -- in an element, or else below it
-  pub in_element : (n : Name) (x : LetterOf) (kids : Bor (List Lettered)) → node ≡ Elem n x kids
+  pub in_element : (n : Bor Name) (x : LetterOf) (kids : Bor (List Lettered)) → node ≡ Elem n x kids
       → (b : Bool) → b ≡ (looking r).look_hits look (letter (kinds.Elem x.sym) x.marks)
       → first_hit (looking r) (bare (before node l.none)) look
-      ≡ cond b (Some (one (an_element (name n) (bare (trees kids.now))))) (first_hit (looking r) (bare (trees kids.now)) ((looking r).look_step look (letter (kinds.Elem x.sym) x.marks)))
+      ≡ cond b (Some (one (an_element (name n.now) (bare (trees kids.now))))) (first_hit (looking r) (bare (trees kids.now)) ((looking r).look_step look (letter (kinds.Elem x.sym) x.marks)))
   in_element n x kids is b h =
       let m = looking r in
       let here = (element_at r node n x kids l.none is_lettered is).letter_is in
-      let tree : Tree = an_element (name n) (bare (trees kids.now)) in
+      let tree : Tree = an_element (name n.now) (bare (trees kids.now)) in
       let hit : Option Node = Some (one tree) in
       let told : m.look_hits look (m.letter tree) ≡ b = ap (m.look_hits look) (sym here) ∙ sym h in
       let below : Option Node = first_hit m (bare (trees kids.now)) (m.look_step look (letter (kinds.Elem x.sym) x.marks)) in
@@ -73,7 +73,7 @@ module _ (r : Runner) (look : Looking) (node : Lettered) (is_lettered : IsLetter
       ∙ (ap (λ k. or_else (cond b hit (first_hit m (bare (trees kids.now)) (m.look_step look k))) None) (sym here) ∙ none_last (cond b hit below))))
 
   -- nor is there any below, where no item is left
-  pub none_in_element : (n : Name) (x : LetterOf) (kids : Bor (List Lettered)) → node ≡ Elem n x kids
+  pub none_in_element : (n : Bor Name) (x : LetterOf) (kids : Bor (List Lettered)) → node ≡ Elem n x kids
       → false ≡ (looking r).look_hits look (letter (kinds.Elem x.sym) x.marks)
       → is_empty_state ((looking r).look_step look (letter (kinds.Elem x.sym) x.marks)).state ≡ true
       → first_hit (looking r) (bare (before node l.none)) look ≡ None

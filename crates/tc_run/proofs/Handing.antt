@@ -1,14 +1,11 @@
 -- What a call hands on of what the calls inside it answer.
-use Rattle.std.proofs.Common.{◌≡◌, ℕ, ◌+◌, ◌<◌, ◌≤◌, ap, sym, subst, Result, Ok, Err, arith}
+use Rattle.std.proofs.Common.{◌≡◌, ℕ, ◌+◌, ◌<◌, ◌≤◌, sym, subst, Result, Ok, Err, arith}
 use Rattle.std.specs.Prelude.{IsErrAnd}
-use Rattle.tc_model.specs.Views.{trees}
-use Rattle.tc_model.specs.Names.{ExpandedName}
-use Rattle.tc_model.specs.Outcomes.{Outcome, within, counted, put_around}
+use Rattle.tc_model.specs.Outcomes.{Outcome, within, counted}
 use Rattle.tc_run.specs.Spent.{Answers}
 use Rattle.tc_run.specs.declared.RunFault.{RunFault}
 use Rattle.tc_run.specs.declared.RunFault.TheVariants.{TooMuchWork, TooOpen}
 use Rattle.tc_run.specs.declared.output.Output.{Output}
-use Rattle.tc_run.proofs.Putting.{enter_fails}
 use Rattle.tc_run.proofs.Spending.{Fails, fails_counted, fails_count, answers_within, answers_counted}
 
 -- an error inside is that of the call
@@ -22,20 +19,17 @@ open_deep around x e o l h =
     let p : Fails around x TooOpen o = omega (arith, l, h.1) in
     subst (λ z. Fails around x z o) (sym h.0) p
 
--- the same of a body that counts, of an element, and of what can't be held
+-- the same of a body that counts
 pub counted_deep : (around : ℕ) (x : Output) (e : RunFault) (a : Outcome) → (e ≡ TooOpen) × (8000 < around + 1) → Fails around x e (counted a)
 counted_deep around x e a h = subst (λ z. Fails around x z (counted a)) (sym h.0) (fails_counted around x a h.1)
 
 pub counted_long : (around : ℕ) (x : Output) (e : RunFault) (a : Outcome) → (e ≡ TooMuchWork) × (4000000 < x.work + 1) → Fails around x e (counted a)
 counted_long around x e a h = subst (λ z. Fails around x z (counted a)) (sym h.0) (fails_count around x a h.1)
 
-pub around_long : (around : ℕ) (x : Output) (n : ExpandedName) (e : RunFault) (a : Outcome) → (e ≡ TooMuchWork) × (4000000 < x.work + 1) → Fails around x e (put_around n a)
-around_long around x n e a h = subst (λ z. Fails around x z (put_around n a)) (sym h.0) (enter_fails around x n a h.1)
-
 -- within a body that counts, and within an instruction
 pub counted_within : {T : Type 0} (around n : ℕ) (x y z : Output) (r : Result T RunFault) (a : Outcome)
-    → (n ≡ around + 1) × (n ≤ 8000) → y.nodes.items ≡ x.nodes.items → (y.work ≡ x.work + 1) × (y.work ≤ 4000000) → Answers n y z r a → Answers around x z r (counted a)
-counted_within around n x y z r a d e f s = answers_counted around x y z r a (ap trees e) f.0 (subst (λ k. Answers k y z r a) d.0 s)
+    → (n ≡ around + 1) × (n ≤ 8000) → y.taken ≡ x.taken → (y.work ≡ x.work + 1) × (y.work ≤ 4000000) → Answers n y z r a → Answers around x z r (counted a)
+counted_within around n x y z r a d e f s = answers_counted around x y z r a e f.0 (subst (λ k. Answers k y z r a) d.0 s)
 
 pub instructed : {T : Type 0} (around n : ℕ) (x y : Output) (r : Result T RunFault) (a b : Outcome)
     → (n ≡ around + 1) × (n ≤ 8000) → b ≡ within a → Answers n x y r a → Answers around x y r b

@@ -1,15 +1,15 @@
 -- Lettered trees are joined, and stay lettered where more elements have a number.
-use Rattle.std.proofs.Common.{◌≡◌, ℕ, zero, suc, List, [], ◌∷◌, ◌++◌, length, refl, ap, ◌∙◌, sym, subst, map, Bor, Option, None, Some, slice_get, IfSome, append_assoc, append-nil}
+use Rattle.std.proofs.Common.{◌≡◌, ℕ, zero, suc, List, [], ◌∷◌, ◌++◌, length, refl, ap, ◌∙◌, sym, subst, Bor, Option, None, Some, slice_get, IfSome, append_assoc, append-nil}
 use Rattle.std.proofs.lemmas.List.{map-append}
 use Rattle.std.proofs.lemmas.List.Elements.{All-weaker}
 use Rattle.tc_model.specs.Trees as t
 use Rattle.tc_model.specs.Trees.{Trees, beside}
 use Rattle.tc_model.specs.Sheets.{Test}
 use Rattle.tc_model.specs.Symbols.{Mention}
-use Rattle.tc_run.specs.Findings.{IsFound, AreFoundUnder}
+use Rattle.tc_run.specs.Findings.{IsFound}
 use Rattle.tc_run.specs.Lettered.{Lettered, none, text, element, bare, IsLettered}
-use Rattle.tc_run.specs.Running.{Guide, guide, kids_of, symbols_by, predicates_by, IsLetteredIn}
-use Rattle.tc_run.specs.Sights.{AreSeenUnder, AreRemembered, HasGrown}
+use Rattle.tc_run.specs.Running.{Guide, kids_of, symbols_by, predicates_by, IsLetteredIn}
+use Rattle.tc_run.specs.Sights.{AreSeenUnder, HasGrown}
 use Rattle.tc_run.specs.declared.findings.Finding.{Finding}
 use Rattle.tc_run.specs.declared.letters.Lettered.{Lettered as LetteredOf}
 use Rattle.tc_run.specs.declared.letters.Lettering.{Lettering}

@@ -1,5 +1,6 @@
 pub mod Views
 pub mod LetteredSteps
+pub mod Taken
 pub mod Spending
 pub mod Putting
 pub mod Alone
@@ -19,10 +20,13 @@ pub mod Result
 pub mod Handing
 pub mod Measures
 pub mod BuiltIn
+pub mod Idle
 pub mod Templates
+pub mod OnLeaves
 pub mod Hitting
 pub mod Ends
 pub mod FoundLow
 pub mod Asking
 pub mod Tested
 pub mod Visiting
+pub mod FirstOfChildren

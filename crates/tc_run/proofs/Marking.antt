@@ -4,7 +4,7 @@ use Rattle.std.proofs.lemmas.List.{length-drop, length-map}
 use Rattle.std.proofs.Math.Pow.{pow_mono}
 use mir.Val.{bool_byte}
 use Rattle.tc_model.specs.Trees as t
-use Rattle.tc_model.specs.Chains.{Tree, an_element, a_text, children_of, joined_texts}
+use Rattle.tc_model.specs.Chains.{Tree, an_element, a_text, children_of}
 use Rattle.tc_model.specs.Sheets.{Test}
 use Rattle.tc_model.specs.Symbols.{symbol_of}
 use Rattle.tc_model.specs.Letters.{letter_of, marks_of}
@@ -36,13 +36,13 @@ module _ (r : Runner) (is : IsRunner r) where
   pub text_lettered : (numbered : List t.Trees) (s : Bor (List ℕ)) (m : Marks) → m.0 ≡ marks_on r t.none → IsLetteredIn r numbered (before (Text s m) l.none)
   text_lettered numbered s m e = subst (IsLetteredIn r numbered) (sym (before_text s m l.none)) (e ∙ marks_are (a_text s.now), tt)
 
-  pub element_lettered : (numbered : List t.Trees) (n : Name) (x : Letter) (kids : Bor (List Lettered))
-      → x.sym.0 ≡ symbol_of (symbols_by r) (name n) → x.marks.0 ≡ marks_on r (l.bare (trees kids.now))
+  pub element_lettered : (numbered : List t.Trees) (n : Bor Name) (x : Letter) (kids : Bor (List Lettered))
+      → x.sym.0 ≡ symbol_of (symbols_by r) (name n.now) → x.marks.0 ≡ marks_on r (l.bare (trees kids.now))
       → IfSome x.number (λ k. slice_get numbered k ≡ Some (l.bare (trees kids.now))) → IsLetteredIn r numbered (trees kids.now) → IsLetteredIn r numbered (before (Elem n x kids) l.none)
   element_lettered numbered n x kids e f o k =
       let h = l.bare (trees kids.now) in
       subst (IsLetteredIn r numbered) (sym (before_elem n x kids l.none))
-      (record { symbol = e; marks_are = f ∙ marks_are (an_element (name n) h); number_is = o }, (k, tt))
+      (record { symbol = e; marks_are = f ∙ marks_are (an_element (name n.now) h); number_is = o }, (k, tt))
 
 abbrev bit_of : Bool → ℕ
 bit_of b = if b then 1 else 0

@@ -24,7 +24,7 @@ tree_less n ns i x h e =
     omega (arith, low)
 
 -- below an element
-pub below_less : (n : ℕ) (x : Lettered) (m : Name) (y : LetterOf) (kids : Bor (List Lettered)) (rank : ℕ) → x ≡ Elem m y kids → rank < 16
+pub below_less : (n : ℕ) (x : Lettered) (m : Bor Name) (y : LetterOf) (kids : Bor (List Lettered)) (rank : ℕ) → x ≡ Elem m y kids → rank < 16
     → left_at n (bare (trees kids.now)) rank < left_at n (bare (before x l.none)) 0
 below_less n x m y kids rank is h =
     let at : height_of (before x l.none) ≡ max (suc (height_of (trees kids.now))) 0 = ap (λ z. height_of (before z l.none)) is ∙ ap height_of (before_elem m y kids l.none) in

@@ -41,8 +41,8 @@ abbrev pub here_root : Bor (List Lettered) → ℕ → Context
 here_root kids above = record { shape = shapes.Root; kids = kids; above = above }
 
 module _ (r : Runner) where
-  pub is_here_elem : (n : Name) (x : LetterOf) (kids : Bor (List Lettered)) (rest : l.Lettered) (above : ℕ)
-      → ElementAt r n x kids rest → above < length (told_by r).ancestors.states → IsContext r (here_elem n kids above)
+  pub is_here_elem : (n : Bor Name) (x : LetterOf) (kids : Bor (List Lettered)) (rest : l.Lettered) (above : ℕ)
+      → ElementAt r n x kids rest → above < length (told_by r).ancestors.states → IsContext r (here_elem n.now kids above)
   is_here_elem n x kids rest above a h = record { kids = a.kids_are; children_are = refl; above = h }
 
   pub is_here_root : (kids : Bor (List Lettered)) (above : ℕ) → IsLetteredBy r (trees kids.now) → above < length (told_by r).ancestors.states → IsContext r (here_root kids above)
@@ -69,8 +69,8 @@ module _ (r : Runner) where
         let doc = bare (trees kids.now) in ap (λ (q : State). does_in m p (c.whole doc) (λ i u. outputs m doc i q u)) e
 
     -- one element and what stands below it
-    pub outs_of_element : (above : ℕ) (g : Going) (h : Context) (x : Lettered) (n : Name) (y : LetterOf) (kids : Bor (List Lettered))
-        → IsLetteredBy r (before x l.none) → x ≡ Elem n y kids → node h ≡ c.one (c.an_element (name n) (bare (trees kids.now)))
+    pub outs_of_element : (above : ℕ) (g : Going) (h : Context) (x : Lettered) (n : Bor Name) (y : LetterOf) (kids : Bor (List Lettered))
+        → IsLetteredBy r (before x l.none) → x ≡ Elem n y kids → node h ≡ c.one (c.an_element (name n.now) (bare (trees kids.now)))
         → ancestor (told_by r) h.above ≡ (machine r bodies).down_to (ancestor (told_by r) above) (letter (kinds.Elem y.sym) y.marks)
         → outputs_on r bodies (bare (before x l.none)) above g
         ≡ join
@@ -83,4 +83,4 @@ module _ (r : Runner) where
         let below : Outcome = outputs_on r bodies (bare (trees kids.now)) h.above ((machine r bodies).move_step g k) in
         ap (λ z. outputs_on r bodies (bare (before z l.none)) above g) is
         ∙ (ap (λ z. outputs_on r bodies (bare z) above g) (before_elem n y kids l.none)
-        ∙ (element_first r bodies above g h (name n) (bare (trees kids.now)) t.none k at a.letter_is down ∙ ap (join first) (join_none below)))
+        ∙ (element_first r bodies above g h (name n.now) (bare (trees kids.now)) t.none k at a.letter_is down ∙ ap (join first) (join_none below)))

@@ -51,11 +51,11 @@ module _ (r : Runner) where
     pub alone : IsLetteredBy r (l.text s.now m.0 l.none)
     pub rest_is : IsLetteredBy r rest
 
-  pub record ElementAt (n : Name) (x : LetterOf) (kids : Bor (List Lettered)) (rest : l.Lettered) : Type 0 where
-    pub letter_is : letter (kinds.Elem x.sym) x.marks ≡ letter_of (symbols_by r) (predicates_by r) (an_element (name n) (bare (trees kids.now)))
+  pub record ElementAt (n : Bor Name) (x : LetterOf) (kids : Bor (List Lettered)) (rest : l.Lettered) : Type 0 where
+    pub letter_is : letter (kinds.Elem x.sym) x.marks ≡ letter_of (symbols_by r) (predicates_by r) (an_element (name n.now) (bare (trees kids.now)))
     pub kids_are : IsLetteredBy r (trees kids.now)
     pub number_is : IsNumberOf r x.number (bare (trees kids.now))
-    pub alone : IsLetteredBy r (l.element (name n) x.sym.0 x.marks.0 x.number (trees kids.now) l.none)
+    pub alone : IsLetteredBy r (l.element (name n.now) x.sym.0 x.marks.0 x.number (trees kids.now) l.none)
     pub rest_is : IsLetteredBy r rest
 
   text_kept : (s : Bor (List ℕ)) (m : Marks) (rest : l.Lettered) → IsLetteredBy r (l.text s.now m.0 rest) → TextAt s m rest
@@ -65,8 +65,8 @@ module _ (r : Runner) where
     rest_is = h.1;
   }
 
-  element_kept : (n : Name) (x : LetterOf) (kids : Bor (List Lettered)) (rest : l.Lettered)
-      → IsLetteredBy r (l.element (name n) x.sym.0 x.marks.0 x.number (trees kids.now) rest) → ElementAt n x kids rest
+  element_kept : (n : Bor Name) (x : LetterOf) (kids : Bor (List Lettered)) (rest : l.Lettered)
+      → IsLetteredBy r (l.element (name n.now) x.sym.0 x.marks.0 x.number (trees kids.now) rest) → ElementAt n x kids rest
   element_kept n x kids rest h = record {
     letter_is = λ i. let y : Letter = record { kind = of_symbol (h.0.symbol i); marks = h.0.marks_are i } in y;
     kids_are = h.1.0;
@@ -78,7 +78,7 @@ module _ (r : Runner) where
   pub text_at : (node : Lettered) (s : Bor (List ℕ)) (m : Marks) (rest : l.Lettered) → IsLetteredBy r (before node rest) → node ≡ Text s m → TextAt s m rest
   text_at node s m rest h is = text_kept s m rest (subst (IsLetteredBy r) (ap (λ y. before y rest) is ∙ before_text s m rest) h)
 
-  pub element_at : (node : Lettered) (n : Name) (x : LetterOf) (kids : Bor (List Lettered)) (rest : l.Lettered)
+  pub element_at : (node : Lettered) (n : Bor Name) (x : LetterOf) (kids : Bor (List Lettered)) (rest : l.Lettered)
       → IsLetteredBy r (before node rest) → node ≡ Elem n x kids → ElementAt n x kids rest
   element_at node n x kids rest h is = element_kept n x kids rest (subst (IsLetteredBy r) (ap (λ y. before y rest) is ∙ before_elem n x kids rest) h)
 

@@ -1,6 +1,6 @@
 -- What is put out on the root by states is what the stylesheet puts out on the document.
-use Rattle.std.proofs.Common.{◌≡◌, ◌+◌, List, refl, ap, ◌∙◌, sym, subst, Result, Ok, Err, IsErrAnd, IfErr, arith}
-use Rattle.tc_model.specs.Trees.{Trees, none, beside, normal_form}
+use Rattle.std.proofs.Common.{◌≡◌, ◌+◌, List, refl, sym, subst, Result, Ok, Err, IsErrAnd, IfErr, arith}
+use Rattle.tc_model.specs.Trees.{Trees}
 use Rattle.tc_model.specs.Chains.{top}
 use Rattle.tc_model.specs.Sheets.{Sheet, CallFreeBody}
 use Rattle.tc_model.specs.Outcomes.{Outcome, counted}
@@ -8,15 +8,14 @@ use Rattle.tc_model.specs.Meaning.{by_mode, body_of}
 use Rattle.tc_model.specs.Machine.{in_mode, u_mode, does_at}
 use Rattle.tc_model.specs.Symbols.{Mention, symbols_of}
 use Rattle.tc_model.specs.Numberings.{predicates_of}
-use Rattle.tc_model.specs.Safety.{Transforms, IsResultOf}
-use Rattle.tc_model.specs.Views.{trees}
+use Rattle.tc_model.specs.Safety.{Transforms}
 use Rattle.tc_model.proofs.TotalExact.{does_complete}
 use Rattle.tc_rules.specs.Kept.{IsRulesOf, told}
 use Rattle.tc_rules.specs.States.{AllInline, states}
 use Rattle.tc_rules.specs.RulesView.{AreSymbolsWith}
 use Rattle.tc_rules.specs.declared.rules.Rules.{Rules}
 use Rattle.tc_rules.proofs.States.{states_tell}
-use Rattle.tc_run.specs.Limits.{KeepsLimits, IsCause}
+use Rattle.tc_run.specs.Limits.{IsCause, IsPutOut}
 use Rattle.tc_run.specs.Running.{IsRunner, HasBodies, sheet_by, symbols_by}
 use Rattle.tc_run.specs.Spent.{Spends, IsPassed}
 use Rattle.tc_run.specs.declared.RunFault.{RunFault}
@@ -57,20 +56,18 @@ pub told_as : {T : Type 0} (answer : Result T RunFault) (e : RunFault) (Q : RunF
 told_as (Ok v) e Q h q = absurd h
 told_as (Err d) e Q h q = subst Q (sym h) q
 
-module _ (r : Runner) (is : IsRunner r) (doc : Trees) (x y : Output) (no_tree : trees x.nodes.items ≡ none) (no_work : x.work ≡ 0) where
-  pub keeps_limits : ((bodies : List CallFreeBody) → HasBodies r bodies → Spends 0 x y (on_root (symbols_by r) (sheet_by r) bodies doc)) → KeepsLimits (sheet_by r) doc
-  keeps_limits h =
+module _ (r : Runner) (is : IsRunner r) (doc : Trees) (x y : Output) (no_work : x.work ≡ 0) where
+  pub is_put_out : ((bodies : List CallFreeBody) → HasBodies r bodies → Spends 0 x y (on_root (symbols_by r) (sheet_by r) bodies doc)) → IsPutOut (sheet_by r) doc x.taken y.taken
+  is_put_out h =
       let (bodies, all) = all_unfold (sheet_by r) is.tells.well_formed (sheet_by r).rules is.tells.well_formed.rules in
       let s = h bodies all in
-      (on_root (symbols_by r) (sheet_by r) bodies doc, transforms (symbols_by r) (sheet_by r) is.tells.symbols_are bodies all doc, omega (arith, s.work, s.few, no_work), omega (arith, s.low))
-
-  pub result_is : ((bodies : List CallFreeBody) → HasBodies r bodies → Spends 0 x y (on_root (symbols_by r) (sheet_by r) bodies doc))
-      → (result : Trees) → result ≡ normal_form (trees y.nodes.items) → IsResultOf (sheet_by r) doc result
-  result_is h result e =
-      let (bodies, all) = all_unfold (sheet_by r) is.tells.well_formed (sheet_by r).rules is.tells.well_formed.rules in
-      let s = h bodies all in
-      let o = on_root (symbols_by r) (sheet_by r) bodies doc in
-      (o, transforms (symbols_by r) (sheet_by r) is.tells.symbols_are bodies all doc, e ∙ ap normal_form (s.out ∙ ap (λ k. beside k o.out) no_tree))
+      record {
+        outcome = on_root (symbols_by r) (sheet_by r) bodies doc;
+        transforms = transforms (symbols_by r) (sheet_by r) is.tells.symbols_are bodies all doc;
+        takes = s.out;
+        few = omega (arith, s.work, s.few, no_work);
+        low = omega (arith, s.low);
+      }
 
   pub passes : (e : RunFault) → ((bodies : List CallFreeBody) → HasBodies r bodies → Fails 0 x e (on_root (symbols_by r) (sheet_by r) bodies doc))
       → IsCause (sheet_by r) doc e

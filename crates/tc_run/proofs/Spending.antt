@@ -1,21 +1,21 @@
 -- How what calls put out is joined: one after the other, within an instruction, within a body, around.
 use Rattle.std.proofs.Common.{◌≡◌, ℕ, ◌+◌, ◌<◌, ◌≤◌, max, ap, ◌∙◌, sym, subst, Result, Ok, Err, arith}
-use Rattle.tc_model.specs.Trees.{beside}
-use Rattle.tc_model.specs.Views.{trees}
 use Rattle.tc_model.specs.Outcomes.{Outcome, nothing, join, within, counted}
-use Rattle.tc_model.proofs.TotalJoin.{beside_assoc, beside_none, join_none}
+use Rattle.tc_model.proofs.TotalJoin.{join_none}
 use Rattle.tc_run.specs.Spent.{Spends, IsPassed, Answers}
 use Rattle.tc_run.specs.declared.RunFault.{RunFault}
 use Rattle.tc_run.specs.declared.RunFault.TheVariants.{TooMuchWork, TooOpen, NoMemory}
+use Rattle.tc_run.specs.Taken.{Takes}
 use Rattle.tc_run.specs.declared.output.Output.{Output}
+use Rattle.tc_run.proofs.Taken.{takes_nothing, takes_both}
 
 pub spends_nothing : (around : ℕ) (x : Output) → x.work ≤ 4000000 → around ≤ 8000 → Spends around x x nothing
-spends_nothing around x h k = record { out = sym (beside_none (trees x.nodes.items)); work = omega arith; few = h; low = omega arith }
+spends_nothing around x h k = record { out = takes_nothing x.taken; work = omega arith; few = h; low = omega arith }
 
 pub spends_both : {around : ℕ} {x y z : Output} {a b : Outcome} → Spends around x y a → Spends around y z b → Spends around x z (join a b)
 spends_both {around} {x} {y} {z} {a} {b} s u =
     record {
-      out = u.out ∙ (ap (λ h. beside h b.out) s.out ∙ beside_assoc (trees x.nodes.items) a.out b.out);
+      out = takes_both x.taken y.taken z.taken a.out b.out s.out u.out;
       work = omega (arith, s.work, u.work);
       few = u.few;
       low = omega (arith, s.low, u.low);
@@ -61,6 +61,6 @@ fails_count around x a h = omega (arith, h)
 
 -- within a body that counts
 pub answers_counted : {T : Type 0} (around : ℕ) (x y z : Output) (r : Result T RunFault) (a : Outcome)
-    → trees y.nodes.items ≡ trees x.nodes.items → y.work ≡ x.work + 1 → Answers (around + 1) y z r a → Answers around x z r (counted a)
-answers_counted around x y z (Ok v) a e f s = record { out = s.out ∙ ap (λ h. beside h a.out) e; work = omega (arith, s.work, f); few = s.few; low = omega (arith, s.low) }
+    → y.taken ≡ x.taken → y.work ≡ x.work + 1 → Answers (around + 1) y z r a → Answers around x z r (counted a)
+answers_counted around x y z (Ok v) a e f s = record { out = subst (λ t. Takes t a.out z.taken) e s.out; work = omega (arith, s.work, f); few = s.few; low = omega (arith, s.low) }
 answers_counted around x y z (Err e) a g f p = passed_more e (y.work + a.work) (x.work + (a.work + 1)) (around + 1 + a.nesting) (around + (a.nesting + 1)) (omega (arith, f)) (omega arith) p

@@ -25,6 +25,7 @@ use Rattle.tc_rules.specs.Parts.{IsPart}
 use Rattle.tc_run.specs.Running.{IsRunner, HasBodies, sheet_by, symbols_by, predicates_by, machine}
 use Rattle.tc_rules.specs.Tasks.{IsTaskOf}
 use Rattle.tc_run.specs.Tasks.{IsMeantBy, built_in}
+use Rattle.tc_run.specs.declared.leaves.Bodies.{Bodies}
 use Rattle.tc_run.specs.declared.visits.Template.{Template}
 use Rattle.tc_run.specs.declared.visits.Template.TheVariants as m
 use Rattle.tc_run.specs.declared.runner.Runner.{Runner}
@@ -64,7 +65,7 @@ named_low s sh i e h =
     omega (arith, size, h)
 
 module _ (s : List Body) (n : Node) where
-  pub meant_body : (w : Template) (b : Bor (List Instr)) (p : CallFreeBody) → w ≡ m.Body b → IsMeantBy s n w p → Inlines s (see.body b.now) p
+  pub meant_body : (w : Template) (b : Bodies) (p : CallFreeBody) → w ≡ m.Body b → IsMeantBy s n w p → Inlines s (see.body b.whole.now) p
   meant_body w b p e h = subst (λ v. IsMeantBy s n v p) e h
 
   pub meant_built_in : (w : Template) (mode : ℕ) (p : CallFreeBody) → w ≡ m.BuiltIn mode → IsMeantBy s n w p → p ≡ built_in mode n

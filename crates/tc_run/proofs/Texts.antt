@@ -25,7 +25,7 @@ pub text_joined : (ns : List Lettered) (i : ℕ) (x : Lettered) (s : Bor (List �
 text_joined ns i x s m h e is =
     ap (λ y. joined_texts (bare y)) (left_one ns i x h e ∙ (ap (λ z. before z (trees (drop (i + 1) ns))) is ∙ before_text s m (trees (drop (i + 1) ns))))
 
-pub elem_joined : (ns : List Lettered) (i : ℕ) (x : Lettered) (n : Name) (y : Letter) (kids : Bor (List Lettered)) → i < length ns → x ≡ get_or ns i x → x ≡ ElemOf n y kids
+pub elem_joined : (ns : List Lettered) (i : ℕ) (x : Lettered) (n : Bor Name) (y : Letter) (kids : Bor (List Lettered)) → i < length ns → x ≡ get_or ns i x → x ≡ ElemOf n y kids
     → joined_texts (bare (trees (drop i ns))) ≡ joined_texts (bare (trees kids.now)) ++ joined_texts (bare (trees (drop (i + 1) ns)))
 elem_joined ns i x n y kids h e is =
     ap (λ z. joined_texts (bare z)) (left_one ns i x h e ∙ (ap (λ z. before z (trees (drop (i + 1) ns))) is ∙ before_elem n y kids (trees (drop (i + 1) ns))))

@@ -17,12 +17,12 @@ pub layers_map : (ns : List Lettered) → layers (map before ns) ≡ trees ns
 layers_map [] = refl
 layers_map (n ∷ ns) = ap (before n) (layers_map ns)
 
-pub before_elem : (n : Name) (x : Letter) (kids : Bor (List Lettered)) (rest : l.Lettered)
-    → before (Elem n x kids) rest ≡ l.element (name n) x.sym.0 x.marks.0 x.number (trees kids.now) rest
+pub before_elem : (n : Bor Name) (x : Letter) (kids : Bor (List Lettered)) (rest : l.Lettered)
+    → before (Elem n x kids) rest ≡ l.element (name n.now) x.sym.0 x.marks.0 x.number (trees kids.now) rest
 before_elem n x kids rest =
     ap (λ (y : Lettered). before y rest) (sym (rolls-Elem n x kids))
     ∙ (ap (λ (f : l.Lettered → l.Lettered). f rest) (fold-roll-Lettered (l.Lettered → l.Lettered) layer (parts.Elem n x kids))
-    ∙ ap (λ k. l.element (name n) x.sym.0 x.marks.0 x.number k rest) (layers_map kids.now))
+    ∙ ap (λ k. l.element (name n.now) x.sym.0 x.marks.0 x.number k rest) (layers_map kids.now))
 
 pub before_text : (s : Bor (List ℕ)) (m : Marks) (rest : l.Lettered) → before (Text s m) rest ≡ l.text s.now m.0 rest
 before_text s m rest =

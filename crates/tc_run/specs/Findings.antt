@@ -4,7 +4,7 @@ use Rattle.tc_model.specs.Machine.{first_hit}
 use Rattle.tc_model.specs.Trees.{Trees}
 use Rattle.tc_rules.specs.States.{Looking}
 use Rattle.tc_rules.specs.Tasks.{IsLookAt}
-use Rattle.tc_run.specs.Running.{Guide, guide, looking_under, numbered_by}
+use Rattle.tc_run.specs.Running.{Guide, looking_under, numbered_by}
 use Rattle.tc_run.specs.declared.findings.Finding.{Finding}
 use Rattle.tc_run.specs.declared.findings.Findings.{Findings}
 use Rattle.tc_run.specs.declared.runner.Runner.{Runner}

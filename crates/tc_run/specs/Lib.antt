@@ -4,9 +4,13 @@ pub mod Running
 pub mod Findings
 pub mod Hits
 pub mod Tasks
+pub mod Idle
+pub mod Leaves
 pub mod Sights
+pub mod ChildMoves
 pub mod Visits
 pub mod Ready
+pub mod Taken
 pub mod Spent
 pub mod Limits
 pub mod Named

@@ -1,9 +1,8 @@
 -- What a call that puts out answers: all is put out within the limits, or a limit is passed.
 use Rattle.std.specs.Prelude.{◌≡◌, ◌+◌, ◌<◌, ◌≤◌, ℕ, Result, Ok, Err}
 use Rattle.tc_base.specs.declared.limits.TheConstants.{MOST_OPEN, MOST_WORK}
-use Rattle.tc_model.specs.Trees.{beside}
-use Rattle.tc_model.specs.Views.{trees}
 use Rattle.tc_model.specs.Outcomes.{Outcome}
+use Rattle.tc_run.specs.Taken.{Takes}
 use Rattle.tc_run.specs.declared.RunFault.{RunFault}
 use Rattle.tc_run.specs.declared.RunFault.TheVariants.{TooMuchWork, TooOpen, NoMemory}
 use Rattle.tc_run.specs.declared.output.Output.{Output}
@@ -16,7 +15,7 @@ most_open = MOST_OPEN
 
 -- within so many bodies and instructions all of this was put out, and the limits are kept
 pub record Spends (around : ℕ) (old new : Output) (o : Outcome) : Type 0 where
-  pub out : trees new.nodes.items ≡ beside (trees old.nodes.items) o.out
+  pub out : Takes old.taken o.out new.taken
   pub work : new.work ≡ old.work + o.work
   pub few : new.work ≤ most_work
   pub low : around + o.nesting ≤ most_open

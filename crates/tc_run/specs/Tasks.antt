@@ -10,6 +10,7 @@ use Rattle.tc_model.specs.Trees.{Trees}
 use Rattle.tc_rules.specs.States.{Going}
 use Rattle.tc_rules.specs.Parts.{IsPart}
 use Rattle.tc_rules.specs.RulesView.{ancestor}
+use Rattle.tc_run.specs.Leaves.{AreAlike}
 use Rattle.tc_run.specs.Running.{told_by, machine}
 use Rattle.tc_run.specs.Views.{node}
 use Rattle.tc_run.specs.declared.bodies.Context.{Context}
@@ -33,10 +34,10 @@ built_in m (one (a_text s)) = p_self p_done
 
 -- a body with calls in place is what is meant on a node
 abbrev pub IsMeantBy : List Body → Node → Template → CallFreeBody → Type 0
-IsMeantBy named n (m.Body b) p = Inlines named (see.body b.now) p
+IsMeantBy named n (m.Body b) p = Inlines named (see.body b.whole.now) p
 IsMeantBy named n (m.BuiltIn mode) p = p ≡ built_in mode n
 
--- it is part of the stylesheet
+-- it is part of the stylesheet, and the body for nodes without children is like it there
 abbrev pub IsPartTemplate : Sheet → Template → Type 0
-IsPartTemplate s (m.Body b) = IsPart s (see.body b.now)
+IsPartTemplate s (m.Body b) = IsPart s (see.body b.whole.now) × AreAlike (see.body b.whole.now) (see.body b.on_leaf.now)
 IsPartTemplate s (m.BuiltIn mode) = mode < s.modes

@@ -1,5 +1,5 @@
 -- What contracts see of lettered trees and of the current node: the same data without addresses.
-use Rattle.std.specs.Prelude.{ℕ, List, [], ◌∷◌}
+use Rattle.std.specs.Prelude.{List, [], ◌∷◌}
 use Rattle.tc_model.specs.Trees.{Trees}
 use Rattle.tc_model.specs.Chains.{an_element, a_text, Node, whole, one}
 use Rattle.tc_model.specs.Views.{name}
@@ -17,7 +17,7 @@ layers [] = l.none
 layers (f ∷ fs) = f (layers fs)
 
 abbrev pub layer : Lettered-F (l.Lettered → l.Lettered) → l.Lettered → l.Lettered
-layer (layers_of.Elem n letter kids) rest = l.element (name n) letter.sym.0 letter.marks.0 letter.number (layers kids.now) rest
+layer (layers_of.Elem n letter kids) rest = l.element (name n.now) letter.sym.0 letter.marks.0 letter.number (layers kids.now) rest
 layer (layers_of.Text s marks) rest = l.text s.now marks.0 rest
 
 -- a tree before what stands beside it

@@ -10,6 +10,8 @@ use Rattle.tc_rules.specs.Tasks.{IsMoveAt}
 use Rattle.tc_rules.specs.declared.rules.Kind.{Kind}
 use Rattle.tc_rules.specs.declared.rules.Kind.TheVariants as kinds
 use Rattle.tc_rules.specs.declared.rules.Marks.{Marks}
+use Rattle.tc_run.specs.ChildMoves.{AreFirst}
+use Rattle.tc_run.specs.Leaves.{AreLeaves}
 use Rattle.tc_run.specs.Running.{IsRunner, HasBodies, told_by, sheet_by, symbols_by, predicates_by, machine}
 use Rattle.tc_run.specs.Sights.{LeadsTo, AreSeenBy}
 use Rattle.tc_run.specs.Tasks.{IsMeantBy, IsPartTemplate, built_in}
@@ -53,4 +55,6 @@ IsKnown r k = IsVisit r k.state k.above k.kind k.marks k.visit
 
 pub record AreFoundBy (r : Runner) (k : KnownNodes) : Type 0 where
   pub found : All (λ o. IfSome o (IsKnown r)) k.places.items
+  pub children : AreFirst r k.children
+  pub leaves : AreLeaves (sheet_by r) k.leaves
   pub sights : AreSeenBy r k.sights

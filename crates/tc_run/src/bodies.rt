@@ -2,13 +2,14 @@
 //
 // A node is known by its children with their letters and by the ancestor state at it. Each function puts out into `output`, and is given
 // how many bodies and instructions stand around what it does, and what is remembered of nodes.
-ghost use Rattle.std.specs.Prelude.{◌≡◌, ◌≤◌, ◌<◌, ℕ, List, cond, Contains, is_some, IfSome, OnOk};
+ghost use Rattle.std.specs.Borrow.{Bor};
+ghost use Rattle.std.specs.Prelude.{◌≡◌, ◌≤◌, ◌<◌, ℕ, List, cond, Contains, is_some, IfSome, IsFalse, IsTrue, OnOk};
 ghost use Rattle.tc_base.specs.declared.limits.TheConstants.{MOST_OPEN, MOST_WORK};
 ghost use Rattle.tc_model.specs.Chains as c;
 ghost use Rattle.tc_model.specs.Chains.{string_value};
 ghost use Rattle.tc_model.specs.Letters as letters;
 ghost use Rattle.tc_model.specs.Machine.{CallFreeJob, in_mode, first_hit as first_hit_of, does_in, does_at, takes_in};
-ghost use Rattle.tc_model.specs.Meaning.{all_children as all_children_of, value_of_first};
+ghost use Rattle.tc_model.specs.Meaning.{value_of_first};
 ghost use Rattle.tc_model.specs.Numberings.{looks_of, moves_of};
 ghost use Rattle.tc_model.specs.Outcomes.{Outcome, nothing, counted, put as put_text, put_around, copied};
 ghost use Rattle.tc_model.specs.Views as see;
@@ -22,6 +23,7 @@ ghost use Rattle.tc_rules.specs.Parts.{IsPart, ArePartBranches};
 ghost use Rattle.tc_run.specs.Running.{IsLetteredBy, HasBodies, told_by, sheet_by, symbols_by, predicates_by, machine, looking};
 ghost use Rattle.tc_run.specs.Ready.{IsDocument, IsAt, IsReadyOn, IsReadyBelow, StaysReady};
 ghost use Rattle.tc_run.specs.Hits.{value_of};
+ghost use Rattle.tc_run.specs.Idle.{IsIdleOn};
 ghost use Rattle.tc_run.specs.Sights.{AreSeenBy};
 ghost use Rattle.tc_run.specs.Views.{trees, before, node};
 ghost use Rattle.tc_run.specs.Spent.{Answers};
@@ -29,6 +31,8 @@ ghost use Rattle.tc_rules.specs.Tasks.{IsTaskOf, IsMoveAt, going_from, looking_f
 ghost use Rattle.tc_run.specs.Tasks.{IsMeantBy, IsPartTemplate, built_in as built_in_of, does, outputs_on};
 
 use crate::RunFault;
+use crate::children::all_children;
+use crate::leaves::Bodies;
 use crate::letters::Lettered;
 use crate::looks::{Hit, first_hit, holds};
 use crate::output::{Output, deeper};
@@ -36,24 +40,9 @@ use crate::runner::Runner;
 use crate::sights::KnownSights;
 use crate::visits::{KnownNodes, Template, template_of};
 use bumpalo::Bump;
-use tc_model::{Branch, Instr, Name, NodeTest, Path, Step, Test};
+use tc_base::limits::MOST_OPEN;
+use tc_model::{Branch, Instr, Name, Path};
 use tc_rules::{Job, Kind, Marks};
-
-/// All children of a node.
-static ALL_CHILDREN: Path<'static> = Path {
-    alts: &[&[Step {
-        deep: false,
-        test: NodeTest::Node,
-        when: Test::True,
-    }]],
-};
-
-/// The path to all children: what a built-in rule selects (XSLT 1.0, 5.8).
-fn all_children<'b>() -> &'b Path<'b>
-    ensures { see.path result.now ≡ all_children_of }
-{
-    &ALL_CHILDREN
-}
 
 /// What a node is.
 #[derive(Clone, Copy)]
@@ -93,8 +82,8 @@ pub(crate) fn root<'b>(
         above: 0,
     };
     let found = runner.rules.root_rule(0);
-    let rule = template_of(runner, 0, found);
-    let mut known = KnownNodes::new(arena)?;
+    let mut known = KnownNodes::new(arena, runner)?;
+    let rule = template_of(runner, &known.leaves, 0, found);
     let done = instantiate(runner, rule, &here, 0, output, &mut known);
     drop(known);
     done
@@ -145,7 +134,7 @@ fn instantiate<'b>(
     let nesting = deeper(nesting)?;
     output.count()?;
     match meant {
-        Template::Body(inner) => body(runner, inner, here, nesting, output, known),
+        Template::Body(bodies) => body(runner, bodies.on(here), here, nesting, output, known),
         Template::BuiltIn(mode) => built_in(runner, mode, here, nesting, output, known),
     }
 }
@@ -196,9 +185,39 @@ fn body<'b>(
         (does runner.now bodies p here.now) }
 {
     for one in body {
+        if is_idle(one, here, nesting) {
+            continue;
+        }
         instruction(runner, one, here, nesting, output, known)?;
     }
     Ok(())
+}
+
+/// Whether an instruction is seen to put nothing out here: where no child is, nothing is selected. A body may have thousands of these,
+/// and no work counts them.
+fn is_idle(instruction: &Instr<'_>, here: &Context<'_>, nesting: u32) -> bool
+    ensures { IsTrue result → IsIdleOn here.now nesting (see.instruction instruction.now no_instruction) }
+{
+    if !here.kids.is_empty() || nesting >= MOST_OPEN {
+        return false;
+    }
+    match instruction {
+        Instr::Apply(_, _) => true,
+        Instr::ForEach(_, _, _) => true,
+        Instr::ValueOf(_) => true,
+        Instr::ValueOfSelf => !is_text(here),
+        _ => false,
+    }
+}
+
+/// Whether the current node is a text.
+fn is_text(here: &Context<'_>) -> bool
+    ensures { IsFalse result → (text : Bor (List ℕ)) → here.now.shape ≡ Shape.Text text → ⊥ }
+{
+    match here.shape {
+        Shape::Text(_) => true,
+        _ => false,
+    }
 }
 
 /// One instruction.
@@ -228,7 +247,7 @@ fn instruction<'b>(
             selected(runner, path, Job::Mode(*mode), here, nesting, output, known)
         }
         Instr::Call(number) => {
-            let called = runner.rules.sheet().named[*number as usize];
+            let called = Bodies::alone(runner.rules.sheet().named[*number as usize]);
             instantiate(runner, Template::Body(called), here, nesting, output, known)
         }
         Instr::ValueOf(path) => {
@@ -273,9 +292,9 @@ fn put_element<'b>(
         → Answers nesting output.old output.new result
         (put_around (see.name name.entry) (does runner.now bodies p here.now)) }
 {
-    let before = output.enter()?;
+    let outside = output.enter(&name)?;
     body(runner, inner, here, nesting, output, known)?;
-    output.leave(name, before)
+    output.leave(&name, outside)
 }
 
 /// The current node without its children, around what a body puts out (XSLT 1.0, 7.5).
@@ -387,7 +406,7 @@ fn selected<'b>(
         (outputs_on runner.now bodies (c.children (node here.now)) here.now.above
         (going_from k (see.path path.now))) }
 {
-    match runner.rules.move_first(path, job) {
+    match known.first_of(runner, path, job) {
         None => Ok(()),
         Some(state) => apply_to_trees(runner, here.kids, here.above, state, nesting, output, known),
     }
@@ -443,7 +462,7 @@ fn apply_to_tree<'b>(
             let kind = Kind::Elem(letter.sym);
             let visit = known.visit(runner, state, above, kind, letter.marks);
             let here = Context {
-                shape: Shape::Elem(*name),
+                shape: Shape::Elem(**name),
                 kids: *kids,
                 above: visit.next.above,
             };

@@ -86,9 +86,19 @@ impl<'b> KnownNames<'b> {
         ensures known { AreNamed alphabet.now self.new }
         ensures symbol { result.0 ≡ symbol_of alphabet.now (see.name name.now) }
     {
-        if let Some(sym) = self.remembered(name) {
-            return sym;
+        match self.remembered(name) {
+            Some(sym) => sym,
+            None => self.new_sym(alphabet, name),
         }
+    }
+
+    /// The same where it isn't remembered: out of line, since that is seldom so.
+    #[inline(never)]
+    fn new_sym(&mut self, alphabet: &Alphabet, name: &Name<'b>) -> Sym
+        requires known { AreNamed alphabet.now self.old }
+        ensures known { AreNamed alphabet.now self.new }
+        ensures symbol { result.0 ≡ symbol_of alphabet.now (see.name name.now) }
+    {
         let sym = alphabet.sym_of(name);
         self.remember(*name, sym);
         sym

@@ -39,7 +39,7 @@ pub(crate) struct Letter {
 /// A tree with the letters of its nodes: an element with its children, or a text.
 #[derive(Clone, Copy)]
 pub(crate) enum Lettered<'b> {
-    Elem(Name<'b>, Letter, &'b [Lettered<'b>]),
+    Elem(&'b Name<'b>, Letter, &'b [Lettered<'b>]),
     Text(&'b str, Marks),
 }
 
@@ -151,7 +151,8 @@ pub(crate) fn lettered_document<'b>(
     let asked = all_asked(arena, &runner)?;
     let mut known = Lettering::new(arena)?;
     let on_texts = marks(&runner, asked, &[], &mut known.sights);
-    let lettered = with_letters(arena, &runner, asked, nodes, on_texts, &mut known)?;
+    let kept: &'b [Node<'b>] = arena.try_alloc_slice_copy(nodes)?;
+    let lettered = with_letters(arena, &runner, asked, kept, on_texts, &mut known)?;
     Ok(Document {
         nodes: lettered,
         numbered: into_bump_slice(known.numbered),
@@ -163,7 +164,7 @@ fn with_letters<'b>(
     arena: &'b Bump,
     runner: &Runner<'_, 'b>,
     asked: &[Asked<'_>],
-    nodes: &[Node<'b>],
+    nodes: &'b [Node<'b>],
     on_texts: Marks,
     known: &mut Lettering<'b>,
 ) -> Result<&'b [Lettered<'b>], NoMemory>
@@ -196,7 +197,7 @@ fn lettered_element<'b>(
     runner: &Runner<'_, 'b>,
     asked: &[Asked<'_>],
     known: &mut Lettering<'b>,
-    name: &Name<'b>,
+    name: &'b Name<'b>,
     kids: &'b [Lettered<'b>],
 ) -> Result<Lettered<'b>, NoMemory>
     requires runner { IsRunner runner.now }
@@ -212,7 +213,7 @@ fn lettered_element<'b>(
     let marks = marks_so_far(runner, asked, kids, known);
     let number = known.number(kids)?;
     let letter = Letter { sym, marks, number };
-    Ok(Lettered::Elem(*name, letter, kids))
+    Ok(Lettered::Elem(name, letter, kids))
 }
 
 /// Which predicates hold on a node of these children, while some elements have a number.

@@ -10,11 +10,13 @@ ghost use Rattle.tc_model.specs.Views.{before, trees};
 ghost use Rattle.tc_model.specs.Trees.{IsDocument, none};
 ghost use Rattle.tc_rules.specs.Kept.{IsRulesOf, told};
 ghost use Rattle.tc_run.specs.Lawful.{HasLawfulResults};
-ghost use Rattle.tc_run.specs.Limits.{KeepsLimits, IsCause};
+ghost use Rattle.tc_run.specs.Limits.{KeepsLimits, IsCause, IsPutOut, IsTextOfResult};
 
 mod bodies;
+mod children;
 mod findings;
 mod known_names;
+mod leaves;
 mod letters;
 mod looks;
 mod output;
@@ -26,12 +28,14 @@ mod visits;
 use bodies::root;
 use bumpalo::Bump;
 use letters::lettered_document;
-use output::Output;
+use output::{Output, Taken};
 use runner::Runner;
+use std::alloc::Global;
 use std::slice::from_ref;
 use tc_alpha::Alphabet;
 use tc_base::NoMemory;
 use tc_model::{Node, normalise};
+use tc_print::Writer;
 use tc_rules::Rules;
 
 /// Why there is no result. Where both limits are passed, either may be told.
@@ -61,6 +65,31 @@ pub fn law_of_lawful_results()
     ensures { HasLawfulResults }
 {}
 
+/// Puts out, behind what was taken, what a stylesheet puts out on the root of a document in the default mode.
+fn put_out<'b>(
+    arena: &'b Bump,
+    rules: &Rules<'b>,
+    alphabet: &Alphabet,
+    doc: &Node<'b>,
+    taken: Taken<'b>,
+) -> Result<Taken<'b>, RunFault>
+    requires rules { IsRulesOf alphabet.now rules.now }
+    ensures put { IfOk result
+        (IsPutOut (told rules.now).sheet (before doc.now none) taken.entry) }
+    ensures cause { IfErr result (λ e. IsCause (told rules.now).sheet (before doc.now none) e) }
+{
+    let nodes = from_ref(doc);
+    let document = lettered_document(arena, rules, alphabet, nodes)?;
+    let runner = Runner {
+        rules,
+        alphabet,
+        numbered: document.numbered,
+    };
+    let mut output = Output::new(arena, taken);
+    root(arena, &runner, document.nodes, &mut output)?;
+    Ok(output.taken)
+}
+
 /// The result of a document: the normal form of what is put out on its root in the default mode.
 ///
 /// # Errors
@@ -79,14 +108,35 @@ pub fn run<'b>(
     ensures within { OnOk result (KeepsLimits (told rules.now).sheet (before doc.now none)) }
     ensures cause { IfErr result (λ e. IsCause (told rules.now).sheet (before doc.now none) e) }
 {
-    let nodes = from_ref(doc);
-    let document = lettered_document(arena, rules, alphabet, nodes)?;
-    let runner = Runner {
-        rules,
-        alphabet,
-        numbered: document.numbered,
-    };
-    let mut output = Output::new(arena);
-    root(arena, &runner, document.nodes, &mut output)?;
-    Ok(normalise(arena, &output.nodes)?)
+    let nothing = Taken::Trees(Vec::new(arena));
+    match put_out(arena, rules, alphabet, doc, nothing)? {
+        Taken::Trees(nodes) => Ok(normalise(arena, &nodes)?),
+        Taken::Text(_) => unreachable!(),
+    }
+}
+
+/// The text of the result of a document, as `tc_print` prints it. No tree of the result is made.
+///
+/// # Errors
+///
+/// As `run`.
+pub fn run_text<'b>(
+    arena: &'b Bump,
+    alloc: Global,
+    rules: &Rules<'b>,
+    alphabet: &Alphabet,
+    doc: &Node<'b>,
+) -> Result<Vec<u8>, RunFault>
+    requires rules { IsRulesOf alphabet.now rules.now }
+    requires document { IsDocument (before doc.now none) }
+    ensures result { IfOk result
+        (λ text. IsTextOfResult (told rules.now).sheet (before doc.now none) text.items) }
+    ensures within { OnOk result (KeepsLimits (told rules.now).sheet (before doc.now none)) }
+    ensures cause { IfErr result (λ e. IsCause (told rules.now).sheet (before doc.now none) e) }
+{
+    let nothing = Taken::Text(Writer::new(alloc));
+    match put_out(arena, rules, alphabet, doc, nothing)? {
+        Taken::Text(writer) => Ok(writer.into_bytes()),
+        Taken::Trees(_) => unreachable!(),
+    }
 }

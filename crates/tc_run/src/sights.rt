@@ -143,9 +143,23 @@ impl<'b> KnownSights<'b> {
         ensures known { AreSeenBy runner.now self.new }
         ensures sight { IsSight runner.now look kind marks result }
     {
-        if let Some(sight) = self.remembered(look, kind, marks) {
-            return sight;
+        match self.remembered(look, kind, marks) {
+            Some(sight) => sight,
+            None => self.new_sight(runner, look, kind, marks),
         }
+    }
+
+    /// The same where it isn't remembered: out of line, since that is seldom so.
+    #[inline(never)]
+    fn new_sight(&mut self, runner: &Runner<'_, '_>, look: u32, kind: Kind, marks: Marks) -> Sight
+        requires runner { IsRunner runner.now }
+        requires letter { IsLetter (symbols_by runner.now) (predicates_by runner.now)
+            (see_letter kind marks) }
+        requires look { IsSomeLook (told_by runner.now) look }
+        requires known { AreSeenBy runner.now self.old }
+        ensures known { AreSeenBy runner.now self.new }
+        ensures sight { IsSight runner.now look kind marks result }
+    {
         let sight = Sight {
             hit: runner.rules.sel_hits(look, kind, marks),
             below: below(runner, look, kind, marks),

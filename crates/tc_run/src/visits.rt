@@ -1,25 +1,31 @@
 // What is to be done at nodes: by the states of a move and of ancestors above them, and by their letters. Some of it is remembered,
 // since many nodes have the same letter: each entry is true, so that one is overwritten changes no answer.
-ghost use Rattle.std.specs.Prelude.{◌≡◌, ◌<◌, ℕ, List, length, Option, option_map, IfOk, IfSome};
+ghost use Rattle.std.specs.Prelude.{◌≡◌, ◌<◌, ℕ, List, length, Option, option_map, Contains, IfOk, IfSome, MatchOption};
 ghost use Rattle.tc_model.specs.Chains as c;
 ghost use Rattle.tc_model.specs.Machine.{CallFreeJob};
-ghost use Rattle.tc_model.specs.Sheets.{CallFreeBody};
+ghost use Rattle.tc_model.specs.Numberings.{moves_of};
+ghost use Rattle.tc_model.specs.Sheets.{CallFreeBody, no_alternative};
+ghost use Rattle.tc_model.specs.Views as see;
 ghost use Rattle.tc_rules.specs.Asked.{letter as see_letter, found as found_of};
 ghost use Rattle.tc_rules.specs.Jobs.{IsJob};
 ghost use Rattle.tc_rules.specs.RulesView.{ancestor};
 ghost use Rattle.tc_rules.specs.States.{Chosen, built_in_at, plain_of};
 ghost use Rattle.tc_rules.specs.Tasks.{IsTaskOf, IsSomeMove};
 ghost use Rattle.tc_rules.specs.Views.{mode_of};
+ghost use Rattle.tc_run.specs.ChildMoves.{IsFirst};
+ghost use Rattle.tc_run.specs.Leaves.{AreLeaves};
 ghost use Rattle.tc_run.specs.Running.{IsRunner, HasBodies, told_by, sheet_by, machine};
 ghost use Rattle.tc_run.specs.Tasks.{IsMeantBy, IsPartTemplate, built_in as built_in_of};
 ghost use Rattle.tc_run.specs.Visits.{AreFoundBy, IsNextFor, IsMetBy, IsTemplateAt, IsVisit};
 ghost use Rattle.tc_run.specs.declared.runner.Runner.{Runner as RunnerOf};
 
+use crate::children::ChildMoves;
+use crate::leaves::{Bodies, Leaves};
 use crate::runner::Runner;
 use crate::sights::{KnownSights, same_kind};
 use bumpalo::Bump;
 use tc_base::NoMemory;
-use tc_model::Instr;
+use tc_model::Path;
 use tc_rules::{Found, Job, Kind, Marks};
 
 /// How many visits are remembered.
@@ -28,7 +34,7 @@ const REMEMBERED: usize = 2048;
 /// What is to be instantiated on a node: a body, or what the built-in rules say in a mode.
 #[derive(Clone, Copy)]
 pub(crate) enum Template<'b> {
-    Body(&'b [Instr<'b>]),
+    Body(Bodies<'b>),
     BuiltIn(u32),
 }
 
@@ -56,18 +62,26 @@ struct Known<'b> {
     visit: Visit<'b>,
 }
 
-/// Some of what was done at nodes. It is forgotten where something else comes to its place, and no clause says that anything is
-/// remembered.
+/// Some of what was done at nodes, which is forgotten where something else comes to its place (no clause says that anything is
+/// remembered), and what is known of each mode and each rule from the start.
 #[derive(Drop)]
 pub(crate) struct KnownNodes<'b> {
     places: Vec<Option<Known<'b>>, &'b Bump>,
+    children: ChildMoves<'b>,
+    pub(crate) leaves: Leaves<'b>,
     /// What looks saw.
     pub(crate) sights: KnownSights<'b>,
 }
 
 /// What a rule says, or the built-in ones in a mode.
-pub(crate) fn template_of<'b>(runner: &Runner<'_, 'b>, mode: u32, found: Found) -> Template<'b>
+pub(crate) fn template_of<'b>(
+    runner: &Runner<'_, 'b>,
+    leaves: &Leaves<'b>,
+    mode: u32,
+    found: Found,
+) -> Template<'b>
     requires runner { IsRunner runner.now }
+    requires leaves { AreLeaves (sheet_by runner.now) leaves.now }
     requires mode { mode < (sheet_by runner.now).modes }
     requires found { IfSome (found_of found) (λ i. i < length (sheet_by runner.now).rules) }
     ensures part { IsPartTemplate (sheet_by runner.now) result }
@@ -77,19 +91,24 @@ pub(crate) fn template_of<'b>(runner: &Runner<'_, 'b>, mode: u32, found: Found) 
 {
     match found {
         Found::BuiltIn => Template::BuiltIn(mode),
-        Found::Rule(number) => Template::Body(runner.rules.sheet().rules[number as usize].body),
+        Found::Rule(number) => {
+            let whole = runner.rules.sheet().rules[number as usize].body;
+            Template::Body(leaves.bodies_of(number, whole))
+        }
     }
 }
 
 /// What is to be done on a node of a letter.
 fn template_for<'b>(
     runner: &Runner<'_, 'b>,
+    leaves: &Leaves<'b>,
     job: Job,
     above: u32,
     kind: Kind,
     marks: Marks,
 ) -> Template<'b>
     requires met { IsMetBy runner.now above (see_letter kind marks) }
+    requires leaves { AreLeaves (sheet_by runner.now) leaves.now }
     requires job { IsJob (sheet_by runner.now) job }
     ensures part { IsPartTemplate (sheet_by runner.now) result }
     ensures meant { (bodies : List CallFreeBody) (n : c.Node) (k : CallFreeJob)
@@ -101,10 +120,10 @@ fn template_for<'b>(
         (see_letter kind marks)) }
 {
     match job {
-        Job::Each(number) => Template::Body(runner.rules.each_body(number)),
+        Job::Each(number) => Template::Body(Bodies::alone(runner.rules.each_body(number))),
         Job::Mode(mode) => {
             let found = runner.rules.rule_for(mode, above, kind, marks);
-            template_of(runner, mode, found)
+            template_of(runner, leaves, mode, found)
         }
     }
 }
@@ -112,12 +131,14 @@ fn template_for<'b>(
 /// What is to be instantiated on a node of a letter, if a move selects it.
 fn template_at<'b>(
     runner: &Runner<'_, 'b>,
+    leaves: &Leaves<'b>,
     state: u32,
     above: u32,
     kind: Kind,
     marks: Marks,
 ) -> Option<Template<'b>>
     requires met { IsMetBy runner.now above (see_letter kind marks) }
+    requires leaves { AreLeaves (sheet_by runner.now) leaves.now }
     requires state { IsSomeMove (told_by runner.now) state }
     ensures { IsTemplateAt runner.now state above (see_letter kind marks) result }
 {
@@ -125,7 +146,7 @@ fn template_at<'b>(
         return None;
     }
     let job = runner.rules.mode_of(state);
-    Some(template_for(runner, job, above, kind, marks))
+    Some(template_for(runner, leaves, job, above, kind, marks))
 }
 
 /// The states below an element of a letter. Below a text stands nothing.
@@ -160,12 +181,35 @@ impl<'b> KnownNodes<'b> {
     /// # Errors
     ///
     /// There is no memory for what will be remembered.
-    pub(crate) fn new(arena: &'b Bump) -> Result<KnownNodes<'b>, NoMemory>
-        ensures { IfOk result (λ k. (r : RunnerOf) → AreFoundBy r k) }
+    pub(crate) fn new(arena: &'b Bump, runner: &Runner<'_, 'b>) -> Result<KnownNodes<'b>, NoMemory>
+        requires { IsRunner runner.now }
+        ensures { IfOk result (λ k. AreFoundBy runner.now k) }
     {
         let places = vec![in arena; None; REMEMBERED]?;
+        let children = ChildMoves::new(arena, runner)?;
+        let leaves = Leaves::new(arena, runner)?;
         let sights = KnownSights::new(arena)?;
-        Ok(KnownNodes { places, sights })
+        Ok(KnownNodes {
+            places,
+            children,
+            leaves,
+            sights,
+        })
+    }
+
+    /// The first state of a move. There is none where the path has no alternative.
+    pub(crate) fn first_of(&self, runner: &Runner<'_, 'b>, path: &Path<'_>, job: Job) -> Option<u32>
+        requires runner { IsRunner runner.now }
+        requires known { AreFoundBy runner.now self.now }
+        requires path { Contains (moves_of (sheet_by runner.now))
+            (record { path = see.path path.now; mode = mode_of (sheet_by runner.now).modes job }) }
+        ensures { MatchOption result (see.path path.now ≡ no_alternative)
+            (IsFirst runner.now (see.path path.now) job) }
+    {
+        match self.children.first_of(path, job) {
+            Some(state) => Some(state),
+            None => runner.rules.move_first(path, job),
+        }
     }
 
     /// What is to be done at a node of a letter, if it is remembered.
@@ -222,11 +266,30 @@ impl<'b> KnownNodes<'b> {
         ensures known { AreFoundBy runner.now self.new }
         ensures visit { IsVisit runner.now state above kind marks result }
     {
-        if let Some(visit) = self.remembered(state, above, kind, marks) {
-            return visit;
+        match self.remembered(state, above, kind, marks) {
+            Some(visit) => visit,
+            None => self.new_visit(runner, state, above, kind, marks),
         }
+    }
+
+    /// The same where it isn't remembered: out of line, since that is seldom so.
+    #[inline(never)]
+    fn new_visit(
+        &mut self,
+        runner: &Runner<'_, 'b>,
+        state: u32,
+        above: u32,
+        kind: Kind,
+        marks: Marks,
+    ) -> Visit<'b>
+        requires met { IsMetBy runner.now above (see_letter kind marks) }
+        requires state { IsSomeMove (told_by runner.now) state }
+        requires known { AreFoundBy runner.now self.old }
+        ensures known { AreFoundBy runner.now self.new }
+        ensures visit { IsVisit runner.now state above kind marks result }
+    {
         let visit = Visit {
-            template: template_at(runner, state, above, kind, marks),
+            template: template_at(runner, &self.leaves, state, above, kind, marks),
             next: next_states(runner, state, above, kind, marks),
         };
         self.remember(state, above, kind, marks, visit);

@@ -24,9 +24,11 @@ use Rattle.tc_run.proofs.Alone.{text_alone, element_alone, copy_alone, call_alon
 use Rattle.tc_run.proofs.BuiltIn.{built_in_children, one_deep, value_same, copy_root, copy_elem}
 use Rattle.tc_rules.proofs.NothingBelow.{outputs_none}
 use Rattle.tc_run.proofs.Ends.{no_instruction_left, body_end, left_around}
-use Rattle.tc_run.proofs.Handing.{handed, open_deep, counted_deep, counted_long, around_long, counted_within, instructed}
+use Rattle.tc_run.proofs.Handing.{handed, open_deep, counted_deep, counted_long, counted_within, instructed}
 use Rattle.tc_run.proofs.Hitting.{is_letter, first_going, move_below, going_below, text_visited, outs_next, element_built_in, no_tree_left, spends_none}
 use Rattle.tc_run.proofs.Visiting.{template_seen, leads_some, leads_none, some_seen, none_seen}
+use Rattle.tc_run.proofs.Idle.{idle_spends}
+use Rattle.tc_run.proofs.OnLeaves.{alone_part, whole_meant}
 use Rattle.tc_run.proofs.Instructions.{text_seen, self_seen, elem_seen, copy_seen, apply_seen, call_seen, value_of_seen, choose_seen, for_each_seen, elem_part, copy_part, apply_part, call_part, choose_part, for_each_part}
 use Rattle.tc_run.proofs.Loops.{body_begin, body_further, body_fail, hits_begin, hits_further, hits_end, hits_fail}
 use Rattle.tc_run.proofs.Templates.{no_body, meant_body, meant_built_in, named_got, named_low, named_part_at}
@@ -35,7 +37,7 @@ use Rattle.tc_run.proofs.Nodes.{here_elem, is_here_elem, none_selected, down_low
 use Rattle.tc_run.proofs.OneTree.{apart_at, element_at}
 use Rattle.tc_rules.proofs.PartsOf.{children_move}
 use Rattle.tc_run.proofs.Progress.{HitsSoFar}
-use Rattle.tc_run.proofs.Putting.{around_fails}
+use Rattle.tc_run.proofs.Putting.{around_fails, enter_fails}
 use Rattle.tc_run.proofs.Spending.{Fails, spends_nothing, fails_first, answers_then, spends_last}
 use Rattle.tc_run.proofs.Taking.{part_at, so_far_at}
 use Rattle.tc_run.proofs.bodies.+bodies.Goals as goal
@@ -47,12 +49,12 @@ put_element-returns-in_err-body-clause-outcome t c = λ bodies p hb u.
     let o = does c.args.runner.now bodies p c.args.here.now in
     let e = c.in_err-body.field-0.0 in
     handed n c.args.output.now c.body.new.output c.from_residual-in_err-body.result e (put_around name o) c.from_residual-in_err-body.ensures.1
-    (around_fails n c.args.output.now c.enter.new.self name o e c.in_ok-before.ensures.work.0 (c.in_err-body.ensures.outcome bodies p hb u))
+    (around_fails n c.args.output.now c.enter.new.self name o e c.in_ok-outside.ensures.work.0 (c.in_err-body.ensures.outcome bodies p hb u))
 
 pub put_element-returns-clause-outcome : goal.put_element-returns-clause-outcome
 put_element-returns-clause-outcome t c = λ bodies p hb u.
-    left_around c.args.nesting c.args.output.now c.enter.new.self c.body.new.output c.leave.new.self (see.name c.args.name) (does c.args.runner.now bodies p c.args.here.now) c.in_ok-before.before.items c.leave.result
-    c.in_ok-before.ensures.before c.in_ok-before.ensures.nodes c.in_ok-before.ensures.work (c.in_ok-body.ensures.outcome bodies p hb u) c.leave.ensures.nodes c.leave.ensures.work c.leave.ensures.err
+    left_around c.args.nesting c.args.output.now c.enter.new.self c.body.new.output c.leave.new.self (see.name c.args.name) (does c.args.runner.now bodies p c.args.here.now) c.in_ok-outside.outside c.leave.result
+    c.in_ok-outside.ensures.starts c.in_ok-outside.ensures.work (c.in_ok-body.ensures.outcome bodies p hb u) c.leave.ensures.ends c.leave.ensures.work c.leave.ensures.err
 
 pub body-loop-one-init : goal.body-loop-one-init
 body-loop-one-init t c =
@@ -70,6 +72,23 @@ body-loop-one-preserved t c =
           body_further r bodies c.args.here.now c.args.nesting p i (see.body (drop (k + 1) is))
           (so_far_at r bodies c.args.here.now c.args.nesting c.args.output.now c.loop-one.output p is k i c.loop-one-test.true c.one-item.is (c.loop-one.invariant.2 bodies p hb u))
           (λ q v. c.in_ok-instruction.ensures.outcome bodies q hb v),
+    )
+
+pub body-loop-one-preserved-then-is_idle : goal.body-loop-one-preserved-then-is_idle
+body-loop-one-preserved-then-is_idle t c =
+    let r = c.args.runner.now in
+    let is = c.args.body.now in
+    let k = c.loop-one.one-index in
+    let i = c.one-item.result in
+    let h = c.args.here.now in
+    let n = c.args.nesting in
+    let x = c.loop-one.output in (
+      c.loop-one.invariant.0,
+      (part_at (sheet_by r) is k i c.loop-one-test.true c.one-item.is c.loop-one.invariant.1).1,
+      λ bodies p hb u.
+          body_further r bodies h n p i (see.body (drop (k + 1) is))
+          (so_far_at r bodies h n c.args.output.now x p is k i c.loop-one-test.true c.one-item.is (c.loop-one.invariant.2 bodies p hb u))
+          (λ q v. idle_spends h n _ r bodies q x (c.is_idle.ensures c.if-is_idle.true) c.loop-one.invariant.0.0 c.requires.ready.here.children_are v),
     )
 
 pub body-returns-in_err-instruction-clause-outcome : goal.body-returns-in_err-instruction-clause-outcome
@@ -178,8 +197,11 @@ pub instantiate-returns-in-Body-clause-outcome : goal.instantiate-returns-in-Bod
 instantiate-returns-in-Body-clause-outcome t c = λ bodies p hb m.
     let r = c.args.runner.now in
     let h = c.args.here.now in
-    counted_within c.args.nesting c.in_ok-nesting.nesting c.args.output.now c.count.new.self c.body.new.output c.body.result (does r bodies p h) c.in_ok-nesting.ensures.ok c.in_ok-count.ensures.nodes c.in_ok-count.ensures.ok
-    (c.body.ensures.outcome bodies p hb (meant_body (sheet_by r).named (node h) c.args.meant c.in-Body.inner p c.in-Body.is m))
+    let n = c.in_ok-nesting.nesting in
+    let alike = (subst (IsPartTemplate (sheet_by r)) c.in-Body.is c.requires.meant).1 in
+    let (q, v, same) = c.on.ensures.same alike r bodies p c.requires.ready.here.children_are (meant_body (sheet_by r).named (node h) c.args.meant c.in-Body.bodies p c.in-Body.is m) in
+    counted_within c.args.nesting n c.args.output.now c.count.new.self c.body.new.output c.body.result (does r bodies p h) c.in_ok-nesting.ensures.ok c.in_ok-count.ensures.taken c.in_ok-count.ensures.ok
+    (subst (Answers n c.count.new.self c.body.new.output c.body.result) (sym same) (c.body.ensures.outcome bodies q hb v))
 
 pub instantiate-returns-in-BuiltIn-clause-outcome : goal.instantiate-returns-in-BuiltIn-clause-outcome
 instantiate-returns-in-BuiltIn-clause-outcome t c = λ bodies p hb m.
@@ -187,7 +209,7 @@ instantiate-returns-in-BuiltIn-clause-outcome t c = λ bodies p hb m.
     let h = c.args.here.now in
     let n = c.in_ok-nesting.nesting in
     let e = meant_built_in (sheet_by r).named (node h) c.args.meant c.in-BuiltIn.mode p c.in-BuiltIn.is m in
-    counted_within c.args.nesting n c.args.output.now c.count.new.self c.built_in.new.output c.built_in.result (does r bodies p h) c.in_ok-nesting.ensures.ok c.in_ok-count.ensures.nodes c.in_ok-count.ensures.ok
+    counted_within c.args.nesting n c.args.output.now c.count.new.self c.built_in.new.output c.built_in.result (does r bodies p h) c.in_ok-nesting.ensures.ok c.in_ok-count.ensures.taken c.in_ok-count.ensures.ok
     (subst (λ q. Answers n c.count.new.self c.built_in.new.output c.built_in.result (does r bodies q h)) (sym e) (c.built_in.ensures.outcome bodies hb))
 
 pub instruction-returns-in_err-nesting-clause-outcome : goal.instruction-returns-in_err-nesting-clause-outcome
@@ -219,9 +241,10 @@ instruction-bounds-sheet-number t c =
 pub instruction-instantiate-requires : goal.instruction-instantiate-requires
 instruction-instantiate-requires t c =
     let r = c.args.runner.now in
+    let body = get_or c.sheet.result.now.named.now c.in-Call.number no_body in
     let low = call_part (sheet_by r) c.args.instruction.now c.in-Call.number c.in-Call.is c.requires.part in (
       omega (arith, c.decreases, deeper_less c.args.nesting c.in_ok-nesting.nesting (bare (trees c.args.here.now.kids.now)) 1 6 c.in_ok-nesting.ensures.ok (omega arith)),
-      (record { runner = c.requires.ready.runner; here = c.requires.ready.here; known = c.requires.ready.known; work = c.requires.ready.work; nesting = c.in_ok-nesting.ensures.ok.1 }, named_part_at r c.requires.ready.runner c.in-Call.number (get_or c.sheet.result.now.named.now c.in-Call.number no_body) (named_got (sheet_by r) c.sheet.result.now c.in-Call.number no_body c.sheet.ensures low)),
+      (record { runner = c.requires.ready.runner; here = c.requires.ready.here; known = c.requires.ready.known; work = c.requires.ready.work; nesting = c.in_ok-nesting.ensures.ok.1 }, alone_part (sheet_by r) c.alone-called.result body c.alone-called.ensures.whole c.alone-called.ensures.on_leaf (named_part_at r c.requires.ready.runner c.in-Call.number body (named_got (sheet_by r) c.sheet.result.now c.in-Call.number no_body c.sheet.ensures low))),
     )
 
 pub instruction-chosen_branch-chosen-requires-clause-part : goal.instruction-chosen_branch-chosen-requires-clause-part
@@ -274,7 +297,7 @@ instruction-returns-in-Call-clause-outcome t c = λ bodies p hb u.
     let at = named_got (sheet_by r) c.sheet.result.now number no_body c.sheet.ensures (call_part (sheet_by r) i number c.in-Call.is c.requires.part) in
     let k = call_alone r bodies h named at (subst (λ b. Inlines named b p) (call_seen i number c.in-Call.is) u) in
     instructed c.args.nesting c.in_ok-nesting.nesting c.args.output.now c.instantiate.new.output c.instantiate.result (counted (does r bodies k.plain h)) (does r bodies p h) c.in_ok-nesting.ensures.ok k.outcome
-    (c.instantiate.ensures.outcome bodies k.plain hb k.unfolds)
+    (c.instantiate.ensures.outcome bodies k.plain hb (whole_meant named (node h) c.alone-called.result (get_or c.sheet.result.now.named.now number no_body) k.plain c.alone-called.ensures.whole k.unfolds))
 
 pub instruction-returns-in-ValueOf-clause-outcome : goal.instruction-returns-in-ValueOf-clause-outcome
 instruction-returns-in-ValueOf-clause-outcome t c = λ bodies p hb u.
@@ -327,7 +350,7 @@ selected-returns-in-None-clause-outcome t c = λ bodies k hb task.
     let h = c.args.here.now in
     let p = see.path c.args.path.now in
     spends_none c.args.nesting c.args.output.now (outputs_on r bodies (children (node h)) h.above (going_from k p))
-    (none_selected r bodies (children (node h)) h.above k p (c.in-None.ensures (symbols_by r) c.requires.ready.runner)) c.requires.ready.work c.requires.ready.nesting
+    (none_selected r bodies (children (node h)) h.above k p c.in-None.ensures) c.requires.ready.work c.requires.ready.nesting
 
 pub selected-returns-in-Some-clause-outcome : goal.selected-returns-in-Some-clause-outcome
 selected-returns-in-Some-clause-outcome t c = λ bodies k hb task.
@@ -335,7 +358,7 @@ selected-returns-in-Some-clause-outcome t c = λ bodies k hb task.
     let h = c.args.here.now in
     let p = see.path c.args.path.now in
     let mode = mode_of (sheet_by r).modes c.args.job in
-    let going = first_going r c.in-Some.state p mode k (c.in-Some.ensures (symbols_by r) c.requires.ready.runner) task in
+    let going = first_going r c.in-Some.state p mode k c.in-Some.ensures task in
     subst (λ w. Answers c.args.nesting c.args.output.now c.apply_to_trees.new.output c.apply_to_trees.result (outputs_on r bodies w h.above (going_from k p))) c.requires.ready.here.children_are
     (c.apply_to_trees.ensures.outcome bodies (going_from k p) hb going)
 
@@ -346,7 +369,7 @@ pub copy-put_element-requires : goal.copy-put_element-requires
 copy-put_element-requires t c = (omega (arith, c.decreases), (c.requires.ready, c.requires.part))
 
 pub put_element-body-requires : goal.put_element-body-requires
-put_element-body-requires t c = (omega (arith, c.decreases), (record { runner = c.requires.ready.runner; here = c.requires.ready.here; known = c.requires.ready.known; work = c.in_ok-before.ensures.work.1; nesting = c.requires.ready.nesting }, c.requires.part))
+put_element-body-requires t c = (omega (arith, c.decreases), (record { runner = c.requires.ready.runner; here = c.requires.ready.here; known = c.requires.ready.known; work = c.in_ok-outside.ensures.work.1; nesting = c.requires.ready.nesting }, c.requires.part))
 
 pub body-instruction-requires : goal.body-instruction-requires
 body-instruction-requires t c =
@@ -355,9 +378,9 @@ body-instruction-requires t c =
     (omega (arith, c.decreases), (record { runner = c.requires.ready.runner; here = c.requires.ready.here; known = c.loop-one.invariant.0.1; work = c.loop-one.invariant.0.0; nesting = c.requires.ready.nesting }, part.0))
 
 pub instantiate-body-requires : goal.instantiate-body-requires
-instantiate-body-requires t c = (
+instantiate-body-requires t c = let part = subst (IsPartTemplate (sheet_by c.args.runner.now)) c.in-Body.is c.requires.meant in (
   omega (arith, c.decreases, deeper_less c.args.nesting c.in_ok-nesting.nesting (bare (trees c.args.here.now.kids.now)) 7 1 c.in_ok-nesting.ensures.ok (omega arith)),
-  (record { runner = c.requires.ready.runner; here = c.requires.ready.here; known = c.requires.ready.known; work = c.in_ok-count.ensures.ok.1; nesting = c.in_ok-nesting.ensures.ok.1 }, subst (IsPartTemplate (sheet_by c.args.runner.now)) c.in-Body.is c.requires.meant),
+  (record { runner = c.requires.ready.runner; here = c.requires.ready.here; known = c.requires.ready.known; work = c.in_ok-count.ensures.ok.1; nesting = c.in_ok-nesting.ensures.ok.1 }, c.on.ensures.part part.1 (sheet_by c.args.runner.now) part.0),
 )
 
 pub instantiate-built_in-requires : goal.instantiate-built_in-requires
@@ -375,7 +398,7 @@ instruction-selected-requires t c = (
 pub instruction-body-requires : goal.instruction-body-requires
 instruction-body-requires t c = (
   omega (arith, c.decreases, deeper_less c.args.nesting c.in_ok-nesting.nesting (bare (trees c.args.here.now.kids.now)) 7 6 c.in_ok-nesting.ensures.ok (omega arith)),
-  (record { runner = c.requires.ready.runner; here = c.requires.ready.here; known = record { found = c.requires.ready.known.found; sights = c.chosen_branch-chosen.ensures.known }; work = c.requires.ready.work; nesting = c.in_ok-nesting.ensures.ok.1 }, c.chosen_branch-chosen.ensures.part),
+  (record { runner = c.requires.ready.runner; here = c.requires.ready.here; known = record { found = c.requires.ready.known.found; children = c.requires.ready.known.children; leaves = c.requires.ready.known.leaves; sights = c.chosen_branch-chosen.ensures.known }; work = c.requires.ready.work; nesting = c.in_ok-nesting.ensures.ok.1 }, c.chosen_branch-chosen.ensures.part),
 )
 
 pub instruction-selected-requires-in-ForEach : goal.instruction-selected-requires-in-ForEach
@@ -421,7 +444,7 @@ apply_to_tree-visit-visit-requires-clause-met t c =
     record {
       runner = c.requires.ready.runner;
       above = c.requires.ready.above;
-      letter = is_letter r (letter (kinds.Elem c.in-Elem.letter.sym) c.in-Elem.letter.marks) (an_element (see.name c.in-Elem.name) (bare (trees c.in-Elem.kids.now))) a.letter_is;
+      letter = is_letter r (letter (kinds.Elem c.in-Elem.letter.sym) c.in-Elem.letter.marks) (an_element (see.name c.in-Elem.name.now) (bare (trees c.in-Elem.kids.now))) a.letter_is;
     }
 
 pub apply_to_tree-instantiate_some-requires : goal.apply_to_tree-instantiate_some-requires
@@ -454,13 +477,13 @@ apply_to_tree-returns-in_err-instantiate_some-in-Elem-clause-outcome t c = λ bo
     let x = letter (kinds.Elem y.sym) y.marks in
     let v = c.visit-visit.ensures.visit in
     let next = c.visit-visit.result.next in
-    let h = here_elem name kids next.above in
+    let h = here_elem name.now kids next.above in
     let p = (machine r bodies).body_at g.task (ancestor (told_by r) above) x in
     let done = counted (does r bodies p h) in
     let first = cond ((machine r bodies).move_hits g x) done nothing in
     let below = outputs_on r bodies (bare (trees kids.now)) h.above ((machine r bodies).move_step g x) in
     let whole = outs_of_element r bodies above g h c.args.node.now name y kids c.requires.node c.in-Elem.is refl (down_is r next.above _ v.next.above) in
-    let meant = v.template.meant bodies g (node h) hb at (λ i. element_built_in h (see.name name) (bare (trees kids.now)) y.sym.0 refl i) in
+    let meant = v.template.meant bodies g (node h) hb at (λ i. element_built_in h (see.name name.now) (bare (trees kids.now)) y.sym.0 refl i) in
     let fails = subst (Fails n c.args.output.now e) (template_seen r c.args.state above x c.visit-visit.result.template v.template bodies g done at) (c.in_err-instantiate_some-in-Elem.ensures.outcome bodies p hb meant) in
     handed n c.args.output.now c.instantiate_some.new.output c.from_residual.result e (outputs_on r bodies (bare (before c.args.node.now none)) above g) c.from_residual.ensures.1
     (subst (Fails n c.args.output.now e) (sym whole) (fails_first n c.args.output.now e first below fails))
@@ -497,13 +520,13 @@ apply_to_tree-returns-in-None-clause-outcome t c = λ bodies g hb at.
     let x = letter (kinds.Elem y.sym) y.marks in
     let v = c.visit-visit.ensures.visit in
     let next = c.visit-visit.result.next in
-    let h = here_elem name kids next.above in
+    let h = here_elem name.now kids next.above in
     let p = (machine r bodies).body_at g.task (ancestor (told_by r) above) x in
     let done = counted (does r bodies p h) in
     let first = cond ((machine r bodies).move_hits g x) done nothing in
     let below = outputs_on r bodies (bare (trees kids.now)) h.above ((machine r bodies).move_step g x) in
     let whole = outs_of_element r bodies above g h c.args.node.now name y kids c.requires.node c.in-Elem.is refl (down_is r next.above _ v.next.above) in
-    let meant = v.template.meant bodies g (node h) hb at (λ i. element_built_in h (see.name name) (bare (trees kids.now)) y.sym.0 refl i) in
+    let meant = v.template.meant bodies g (node h) hb at (λ i. element_built_in h (see.name name.now) (bare (trees kids.now)) y.sym.0 refl i) in
     let spends = subst (Spends n c.args.output.now c.instantiate_some.new.output) (template_seen r c.args.state above x c.visit-visit.result.template v.template bodies g done at)
     (c.in_ok-instantiate_some-in-Elem.ensures.outcome bodies p hb meant) in
     let empty = leads_none r c.args.state x next.state v.next.state c.in-None.is (record { path = g.path; mode = Some at.mode }) g.state at.state in
@@ -522,14 +545,14 @@ apply_to_tree-returns-in-Some-clause-outcome t c = λ bodies g hb at.
     let x = letter (kinds.Elem y.sym) y.marks in
     let v = c.visit-visit.ensures.visit in
     let next = c.visit-visit.result.next in
-    let h = here_elem name kids next.above in
+    let h = here_elem name.now kids next.above in
     let p = (machine r bodies).body_at g.task (ancestor (told_by r) above) x in
     let done = counted (does r bodies p h) in
     let first = cond ((machine r bodies).move_hits g x) done nothing in
     let going = (machine r bodies).move_step g x in
     let below = outputs_on r bodies (bare (trees kids.now)) h.above going in
     let whole = outs_of_element r bodies above g h c.args.node.now name y kids c.requires.node c.in-Elem.is refl (down_is r next.above _ v.next.above) in
-    let meant = v.template.meant bodies g (node h) hb at (λ i. element_built_in h (see.name name) (bare (trees kids.now)) y.sym.0 refl i) in
+    let meant = v.template.meant bodies g (node h) hb at (λ i. element_built_in h (see.name name.now) (bare (trees kids.now)) y.sym.0 refl i) in
     let spends = subst (Spends n c.args.output.now c.instantiate_some.new.output) (template_seen r c.args.state above x c.visit-visit.result.template v.template bodies g done at)
     (c.in_ok-instantiate_some-in-Elem.ensures.outcome bodies p hb meant) in
     subst (Answers n c.args.output.now c.apply_to_trees.new.output c.apply_to_trees.result) (sym whole)
@@ -569,7 +592,7 @@ pub instruction-returns-in-Call-clause-ready : goal.instruction-returns-in-Call-
 instruction-returns-in-Call-clause-ready t c = c.instantiate.ensures.ready
 
 pub instruction-returns-in-ValueOf-clause-ready : goal.instruction-returns-in-ValueOf-clause-ready
-instruction-returns-in-ValueOf-clause-ready t c = record { few = c.put_value.ensures.few; known = record { found = c.requires.ready.known.found; sights = c.first_node-first.ensures.known } }
+instruction-returns-in-ValueOf-clause-ready t c = record { few = c.put_value.ensures.few; known = record { found = c.requires.ready.known.found; children = c.requires.ready.known.children; leaves = c.requires.ready.known.leaves; sights = c.first_node-first.ensures.known } }
 
 pub instruction-returns-in-ValueOfSelf-clause-ready : goal.instruction-returns-in-ValueOfSelf-clause-ready
 instruction-returns-in-ValueOfSelf-clause-ready t c = record { few = c.put_self.ensures.few; known = c.requires.ready.known }
@@ -626,17 +649,17 @@ instantiate-returns-in_err-count-clause-outcome t c = λ bodies p hb m.
     let a = does c.args.runner.now bodies p c.args.here.now in
     handed n x c.count.new.self c.from_residual-in_err-count.result e (counted a) c.from_residual-in_err-count.ensures.1 (counted_long n x e a c.in_err-count.ensures.err)
 
-pub put_element-returns-in_err-before-clause-ready : goal.put_element-returns-in_err-before-clause-ready
-put_element-returns-in_err-before-clause-ready t c = record { few = failed c.from_residual.result _ _ c.from_residual.ensures.1; known = c.requires.ready.known }
+pub put_element-returns-in_err-outside-clause-ready : goal.put_element-returns-in_err-outside-clause-ready
+put_element-returns-in_err-outside-clause-ready t c = record { few = failed c.from_residual.result _ _ c.from_residual.ensures.1; known = c.requires.ready.known }
 
-pub put_element-returns-in_err-before-clause-outcome : goal.put_element-returns-in_err-before-clause-outcome
-put_element-returns-in_err-before-clause-outcome t c = λ bodies p hb u.
+pub put_element-returns-in_err-outside-clause-outcome : goal.put_element-returns-in_err-outside-clause-outcome
+put_element-returns-in_err-outside-clause-outcome t c = λ bodies p hb u.
     let n = c.args.nesting in
     let x = c.args.output.now in
     let name = see.name c.args.name in
-    let e = c.in_err-before.field-0.0 in
+    let e = c.in_err-outside.field-0.0 in
     let a = does c.args.runner.now bodies p c.args.here.now in
-    handed n x c.enter.new.self c.from_residual.result e (put_around name a) c.from_residual.ensures.1 (around_long n x name e a c.in_err-before.ensures.err)
+    handed n x c.enter.new.self c.from_residual.result e (put_around name a) c.from_residual.ensures.1 (enter_fails n x name e a c.in_err-outside.ensures.err)
 
 pub instantiate_some-returns-in-Some-clause-ready : goal.instantiate_some-returns-in-Some-clause-ready
 instantiate_some-returns-in-Some-clause-ready t c = c.instantiate.ensures.ready

@@ -13,6 +13,7 @@ use Rattle.tc_run.specs.Views.{trees}
 use Rattle.tc_run.specs.Spent.{Answers}
 use Rattle.tc_run.specs.Tasks.{built_in}
 use Rattle.tc_run.specs.declared.RunFault.TheVariants.{NoMemory}
+use Rattle.tc_run.proofs.FoundLow.{rule_low}
 use Rattle.tc_run.proofs.Handing.{handed}
 use Rattle.tc_run.proofs.Nodes.{is_here_root, down_low, down_is, does_on_root}
 use Rattle.tc_rules.proofs.RuleOf.{chosen_number}
@@ -41,6 +42,11 @@ returns-clause-few c = c.instantiate-done.ensures.ready.few
 pub returns-in_err-known-clause-few : goal.returns-in_err-known-clause-few
 returns-in_err-known-clause-few c = IfOk-from_err c.from_residual.result _ c.from_residual.ensures.0
 
+pub template_of-rule-requires-clause-found : goal.template_of-rule-requires-clause-found
+template_of-rule-requires-clause-found c =
+    let r = c.args.runner.now in
+    rule_low (sheet_by r).rules 0 _ (found c.root_rule-found.result) (c.root_rule-found.ensures (symbols_by r) c.requires.document.runner)
+
 pub template_of-rule-requires-clause-runner : goal.template_of-rule-requires-clause-runner
 template_of-rule-requires-clause-runner c = c.requires.document.runner
 
@@ -50,7 +56,7 @@ instantiate-done-requires-clause-ready c =
     record {
       runner = c.requires.document.runner;
       here = is_here_root r c.args.nodes 0 c.requires.document.nodes (down_low r 0 _ (ancestors_begin (symbols_by r) r.rules.now c.requires.document.runner));
-      known = c.in_ok-known.ensures r;
+      known = c.in_ok-known.ensures;
       work = c.requires.work;
       nesting = omega arith;
     }

@@ -9,7 +9,6 @@ use Rattle.tc_run.specs.Running.{IsLetteredIn, kids_of}
 use Rattle.tc_run.specs.Sights.{AreRemembered, HasGrown}
 use Rattle.tc_run.specs.Views.{before, trees}
 use Rattle.tc_run.specs.declared.letters.Lettered.{Lettered}
-use Rattle.tc_run.specs.declared.letters.Lettered.TheVariants.{Text}
 use Rattle.tc_run.specs.declared.letters.Lettering.{Lettering}
 use Rattle.tc_run.proofs.LetteredSteps.{grown_lettered, grown_twice}
 use Rattle.tc_run.proofs.Marking.{text_lettered}

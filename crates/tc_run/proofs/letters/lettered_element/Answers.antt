@@ -27,7 +27,7 @@ returns-clause-grown c = grown_twice c.args.known.now c.marks_so_far-marks.new.k
 pub returns-clause-lettered : goal.returns-clause-lettered
 returns-clause-lettered c =
     let r = c.args.runner.now in
-    let name = c.args.name.now in
+    let name = c.args.name in
     let kids = c.args.kids in
     let x : Letter = record { sym = c.sym_of-sym.result; marks = c.marks_so_far-marks.result; number = c.in_ok-number.number } in
     let so_far = c.marks_so_far-marks.new.known in

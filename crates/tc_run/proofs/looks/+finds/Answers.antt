@@ -1,8 +1,7 @@
-use Rattle.std.proofs.Common.{◌+◌, None, true, false, drop, is_some, ap, ◌∙◌, sym, refl, rules}
+use Rattle.std.proofs.Common.{◌+◌, None, true, false, drop, is_some, ap, ◌∙◌, sym, rules}
 use Rattle.std.proofs.lemmas.List.{drop_all}
-use Rattle.tc_model.specs.Chains.{one, an_element, a_text}
+use Rattle.tc_model.specs.Chains.{one, a_text}
 use Rattle.tc_model.specs.Machine as machine
-use Rattle.tc_model.specs.Views.{name}
 use Rattle.tc_model.specs.StateCounts.{PathUse}
 use Rattle.tc_rules.specs.Asked.{letter}
 use Rattle.tc_rules.specs.RulesView.{select_below}

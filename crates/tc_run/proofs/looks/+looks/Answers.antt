@@ -62,7 +62,7 @@ first_in-returns-then-sight-clause-answer t c = λ s at.
     let r = c.args.runner.now in
     let x = c.in-Elem in
     let hits = sym c.if-sight.true ∙ c.sight-sight.ensures.sight.hit (record { path = s.path; mode = None }) s.state at in (
-      one (an_element (name x.field-0) (l.bare (trees x.kids.now))),
+      one (an_element (name x.field-0.now) (l.bare (trees x.kids.now))),
       in_element r s c.args.node.now c.requires.node.nodes x.field-0 x.letter x.kids x.is true hits,
       refl,
     )

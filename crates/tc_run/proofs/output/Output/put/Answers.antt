@@ -22,12 +22,12 @@ returns-then-is_empty-clause-outcome c = λ around low.
 pub returns-in_err-count-clause-few : goal.returns-in_err-count-clause-few
 returns-in_err-count-clause-few c = failed c.from_residual.result _ _ c.from_residual.ensures.1
 
-pub returns-in_err-push-clause-few : goal.returns-in_err-push-clause-few
-returns-in_err-push-clause-few c = failed c.from_residual-in_err-push.result _ _ c.from_residual-in_err-push.ensures.1
+pub returns-in_err-text-clause-few : goal.returns-in_err-text-clause-few
+returns-in_err-text-clause-few c = failed c.from_residual-in_err-text.result _ _ c.from_residual-in_err-text.ensures.1
 
-pub returns-in_err-push-clause-outcome : goal.returns-in_err-push-clause-outcome
-returns-in_err-push-clause-outcome c = λ around low.
-    handed around c.args.self.now c.push.new.self c.from_residual-in_err-push.result NoMemory (put c.args.text.now) c.from_residual-in_err-push.ensures.1 tt
+pub returns-in_err-text-clause-outcome : goal.returns-in_err-text-clause-outcome
+returns-in_err-text-clause-outcome c = λ around low.
+    handed around c.args.self.now _ c.from_residual-in_err-text.result NoMemory (put c.args.text.now) c.from_residual-in_err-text.ensures.1 tt
 
 pub returns-clause-few : goal.returns-clause-few
-returns-clause-few c = omega (arith, c.in_ok-push.ensures.work, c.in_ok-count.ensures.ok)
+returns-clause-few c = omega (arith, c.in_ok-count.ensures.ok)

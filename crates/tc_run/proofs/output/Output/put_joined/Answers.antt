@@ -1,4 +1,4 @@
-use Rattle.std.proofs.Common.{ap, subst}
+use Rattle.std.proofs.Common.{subst}
 use Rattle.tc_model.specs.Outcomes.{put}
 use Rattle.tc_run.specs.Spent.{Answers}
 use Rattle.tc_run.specs.declared.RunFault.TheVariants.{NoMemory}

@@ -2,7 +2,9 @@ use Rattle.std.proofs.Common.{◌≡◌, ℕ, List, Option, None, Some, Result, 
 use Rattle.std.specs.Result.{IsErrAnd}
 use Rattle.std.proofs.lemmas.List.Elements.{All-replicate}
 use Rattle.tc_model.specs.Trees.{Trees}
-use Rattle.tc_run.specs.Running.{Guide, guide, numbered_by}
+use Rattle.tc_run.specs.ChildMoves.{AreFirst}
+use Rattle.tc_run.specs.Leaves.{AreLeaves}
+use Rattle.tc_run.specs.Running.{Guide, guide, numbered_by, sheet_by}
 use Rattle.tc_run.specs.Sights.{AreSeenUnder}
 use Rattle.tc_run.specs.Visits.{AreFoundBy, IsKnown}
 use Rattle.tc_run.specs.declared.runner.Runner.{Runner}
@@ -15,11 +17,11 @@ nothing_else : (IsOne : Option Known → Type 0) → ((k : Known) → IsOne (Som
 nothing_else IsOne none None is = refl
 nothing_else IsOne none (Some k) is = absurd (none k is)
 
-none_known : (n : ℕ) (k : KnownNodes) → k.places.items ≡ replicate n None → ((g : Guide) (numbered : List Trees) → AreSeenUnder g numbered k.sights) → (r : Runner) → AreFoundBy r k
-none_known n k same seen r = record { sights = seen (guide r) (numbered_by r); found = subst (All (λ (o : Option Known). IfSome o (IsKnown r))) (sym same) (All-replicate (λ (o : Option Known). IfSome o (IsKnown r)) n None (search rules)) }
+none_known : (r : Runner) (n : ℕ) (k : KnownNodes) → k.places.items ≡ replicate n None → AreFirst r k.children → AreLeaves (sheet_by r) k.leaves → ((g : Guide) (numbered : List Trees) → AreSeenUnder g numbered k.sights) → AreFoundBy r k
+none_known r n k same first leaves seen = record { children = first; leaves = leaves; sights = seen (guide r) (numbered_by r); found = subst (All (λ (o : Option Known). IfSome o (IsKnown r))) (sym same) (All-replicate (λ (o : Option Known). IfSome o (IsKnown r)) n None (search rules)) }
 
 pub returns : goal.returns
-returns c = none_known 2048 _ (c.in_ok-places.ensures.items_if_clones_equal (nothing_else _ (λ k e. e))) c.in_ok-sights.ensures
+returns c = none_known c.args.runner.now 2048 _ (c.in_ok-places.ensures.items_if_clones_equal (nothing_else _ (λ k e. e))) c.in_ok-children.ensures c.in_ok-leaves.ensures c.in_ok-sights.ensures
 
 -- what fails has no value
 failed : {T E : Type 0} (r : Result T E) (P : T → Type 0) (Q : E → Type 0) → IsErrAnd r Q → IfOk r P
@@ -31,3 +33,9 @@ returns-in_err-places c = failed c.from_residual.result _ _ c.from_residual.ensu
 
 pub returns-in_err-sights : goal.returns-in_err-sights
 returns-in_err-sights c = failed c.from_residual-in_err-sights.result _ _ c.from_residual-in_err-sights.ensures.1
+
+pub returns-in_err-children : goal.returns-in_err-children
+returns-in_err-children c = failed c.from_residual-in_err-children.result _ _ c.from_residual-in_err-children.ensures.1
+
+pub returns-in_err-leaves : goal.returns-in_err-leaves
+returns-in_err-leaves c = failed c.from_residual-in_err-leaves.result _ _ c.from_residual-in_err-leaves.ensures.1

@@ -1,14 +1,13 @@
 use Rattle.std.proofs.Common.{◌≡◌, ap, ◌∙◌, subst}
-use Rattle.tc_model.specs.Safety.{IsResultOf}
 use Rattle.tc_model.specs.Views as see
-use Rattle.tc_model.specs.Trees.{Trees, none, normal_form}
+use Rattle.tc_model.specs.Trees.{none}
 use Rattle.tc_run.specs.Lettered.{bare}
-use Rattle.tc_run.specs.Limits.{KeepsLimits, IsCause}
+use Rattle.tc_run.specs.Limits.{IsCause, IsPutOut}
 use Rattle.tc_run.specs.Running.{sheet_by}
 use Rattle.tc_run.specs.Views.{trees}
 use Rattle.tc_run.specs.declared.runner.Runner.{Runner}
-use Rattle.tc_run.proofs.Result.{refused, told_as, passes, result_is, keeps_limits}
-use Rattle.tc_run.proofs.run.Goals as goal
+use Rattle.tc_run.proofs.Result.{refused, told_as, passes, is_put_out}
+use Rattle.tc_run.proofs.put_out.Goals as goal
 
 pub lettered_document-requires : goal.lettered_document-requires
 lettered_document-requires c = c.requires.rules
@@ -31,27 +30,15 @@ returns-in_err-root-clause-cause c =
     let given = trees c.in_ok-document.document.nodes.now in
     let same : bare given ≡ see.before c.args.doc.now none = c.in_ok-document.ensures.1 ∙ ap see.trees c.from_ref-nodes.ensures.value in
     let cause = subst (λ d. IsCause (sheet_by r) d c.in_err-root.field-0.0) same
-    (passes r c.requires.rules (bare given) c.new-output.result c.root.new.output c.new-output.ensures.nodes c.new-output.ensures.work c.in_err-root.field-0.0 c.in_err-root.ensures.outcome) in
+    (passes r c.requires.rules (bare given) c.new-output.result c.root.new.output c.new-output.ensures.work c.in_err-root.field-0.0 c.in_err-root.ensures.outcome) in
     told_as c.from_residual-in_err-root.result c.in_err-root.field-0.0 (λ e. IsCause (sheet_by r) (see.before c.args.doc.now none) e) c.from_residual-in_err-root.ensures.1 cause
 
-pub returns-in_err-normalise-clause-cause : goal.returns-in_err-normalise-clause-cause
-returns-in_err-normalise-clause-cause c =
-    refused c.args.alphabet.now c.args.rules.now c.requires.rules (see.before c.args.doc.now none) c.from_residual-in_err-normalise.result c.from_residual-in_err-normalise.ensures.1
-
-pub returns-clause-result : goal.returns-clause-result
-returns-clause-result c =
+pub returns-clause-put : goal.returns-clause-put
+returns-clause-put c =
     let r : Runner = record { rules = c.args.rules; alphabet = c.args.alphabet; numbered = c.in_ok-document.document.numbered } in
     let given = trees c.in_ok-document.document.nodes.now in
     let same : bare given ≡ see.before c.args.doc.now none = c.in_ok-document.ensures.1 ∙ ap see.trees c.from_ref-nodes.ensures.value in
-    let result : Trees = see.trees c.in_ok-normalise.field-0.now in
-    subst (λ d. IsResultOf (sheet_by r) d result) same
-    (result_is r c.requires.rules (bare given) c.new-output.result c.root.new.output c.new-output.ensures.nodes c.new-output.ensures.work c.in_ok-root.ensures.outcome result
-    (c.in_ok-normalise.ensures ∙ ap (λ xs. normal_form (see.trees xs)) c.deref.ensures.value))
-
-pub returns-clause-within : goal.returns-clause-within
-returns-clause-within c =
-    let r : Runner = record { rules = c.args.rules; alphabet = c.args.alphabet; numbered = c.in_ok-document.document.numbered } in
-    let given = trees c.in_ok-document.document.nodes.now in
-    let same : bare given ≡ see.before c.args.doc.now none = c.in_ok-document.ensures.1 ∙ ap see.trees c.from_ref-nodes.ensures.value in
-    subst (λ d. KeepsLimits (sheet_by r) d) same
-    (keeps_limits r c.requires.rules (bare given) c.new-output.result c.root.new.output c.new-output.ensures.nodes c.new-output.ensures.work c.in_ok-root.ensures.outcome)
+    let x = c.new-output.result in
+    let y = c.root.new.output in
+    subst (λ t. IsPutOut (sheet_by r) (see.before c.args.doc.now none) t y.taken) c.new-output.ensures.taken
+    (subst (λ d. IsPutOut (sheet_by r) d x.taken y.taken) same (is_put_out r c.requires.rules (bare given) x y c.new-output.ensures.work c.in_ok-root.ensures.outcome))
