@@ -30,10 +30,10 @@ entry_in l held ns p is low =
     (p, inside, e)
 
 module _ (a b : RowState) (e : Extended a b) where
-  hedge_is : (u : ℕ) → u < length a.hedges → get_or b.hedges u [] ≡ get_or a.hedges u []
+  pub hedge_is : (u : ℕ) → u < length a.hedges → get_or b.hedges u [] ≡ get_or a.hedges u []
   hedge_is u low = ap (λ l. get_or l u []) e.hedges ∙ get_or-append a.hedges e.more_hedges [] u low
 
-  tree_is : (u : ℕ) → u < length a.trees → get_or b.trees u [] ≡ get_or a.trees u []
+  pub tree_is : (u : ℕ) → u < length a.trees → get_or b.trees u [] ≡ get_or a.trees u []
   tree_is u low = ap (λ l. get_or l u []) e.trees ∙ get_or-append a.trees e.more_trees [] u low
 
   pub more_hedges : length a.hedges ≤ length b.hedges
@@ -127,7 +127,7 @@ pub record Keeps (old new : List (List ℕ)) (k : ℕ) (ns : List ℕ) : Type 0 
   pub is : get_or new k [] ≡ ns
   pub either : (u : ℕ) → u < length new → (u < length old) ⊎ (u ≡ k)
 
-pub keeps : (old new : List (List ℕ)) (k : ℕ) (ns : List ℕ) → slice_get new k ≡ Some ns → (new ≡ old) ⊎ ((k ≡ length old) × (new ≡ old ++ ns ∷ [])) → Keeps old new k ns
+keeps : (old new : List (List ℕ)) (k : ℕ) (ns : List ℕ) → slice_get new k ≡ Some ns → (new ≡ old) ⊎ ((k ≡ length old) × (new ≡ old ++ ns ∷ [])) → Keeps old new k ns
 keeps old new k ns at (inl e) = record {
   more = [];
   all = e ∙ sym (append-nil old);
@@ -149,3 +149,6 @@ keeps old new k ns at (inr (last, e)) =
   where
     last_or : (u n k : ℕ) → k ≡ n → u < suc n → (u < n) ⊎ (u ≡ k)
     last_or u n k e l = grind arith
+
+pub kept : {old new : List (List ℕ)} {k : ℕ} {ns items : List ℕ} → slice_get new k ≡ Some ns → (new ≡ old) ⊎ ((k ≡ length old) × (new ≡ old ++ ns ∷ [])) → ns ≡ items → Keeps old new k items
+kept {old} {new} {k} {ns} {items} at more e = keeps old new k items (at ∙ ap Some e) (subst (λ l. (new ≡ old) ⊎ ((k ≡ length old) × (new ≡ old ++ l ∷ []))) e more)

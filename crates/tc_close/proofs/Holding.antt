@@ -22,10 +22,14 @@ use Rattle.tc_beh.specs.declared.rooms.Room.{Room}
 use Rattle.tc_beh.specs.declared.rooms.HRow.{HRow}
 use Rattle.tc_beh.specs.declared.rooms.TRow.{TRow}
 use Rattle.tc_settle.specs.Held as settle
-use Rattle.tc_settle.specs.Held.{IsHeldAs, IsUnchanged, IsNoneAt, IsTextAt, IsAppendAt, IsWrapAt}
+use Rattle.tc_settle.specs.Held.{IsNoneAt, IsTextAt, IsAppendAt, IsWrapAt}
 use Rattle.tc_close.specs.declared.rooms.Rooms.{Rooms}
 use Rattle.tc_close.specs.RowState.{RowState, hedge_at, tree_at, AreGood, Each, Extended, IsMadeHedge, IsMadeTree, AreMadeEntries, IsFullBy, IsFull, held_of}
-use Rattle.tc_close.specs.HeldRows.{AreRoomsOf, AreHeld, state_of}
+use Rattle.tc_close.specs.HeldRows.{AreRoomsOf, AreHeld, AreKnown, state_of}
+use Rattle.tc_close.specs.declared.appends.Appends.{Appends}
+use Rattle.tc_close.specs.declared.kinds.Kinds.{Kinds}
+use Rattle.tc_close.proofs.AppendLaws.{told_on}
+use Rattle.tc_close.proofs.KindLaws.{true_hedge, true_tree}
 use Rattle.tc_rows.proofs.AllLaws.{rows_are_lawful}
 use Rattle.tc_close.proofs.Least.{low_or_high}
 use Rattle.tc_close.proofs.Growing.{Keeps, entry_in, hedge_on, tree_on, hedge_same, tree_same, stood_on, grows, grows_self}
@@ -58,21 +62,24 @@ entry_found l held ns k p room low e = subst (λ n. Contains (entries_by held (o
 pub taken : (lists : List (List ℕ)) (h : ℕ) (ns items : List ℕ) → slice_get lists h ≡ Some ns → items ≡ ns → items ≡ get_or lists h []
 taken lists h ns items at e = e ∙ sym (get_or_from_slice_get lists h ns [] at)
 
-pub whole_state : (r : Rows) (hedges trees : List (List ℕ)) (w : Bool) (a : RowState) → w ≡ true → state_of r hedges trees w ≡ a → state_of r hedges trees true ≡ a
-whole_state r hedges trees w a e is = subst (λ v. state_of r hedges trees v ≡ a) e is
-
-pub whole_held : (IsOf : Triple → Type 0) (r : Rows) (hedges trees : List (List ℕ)) (rooms : Rooms) (w : Bool) → w ≡ true → AreHeld IsOf r (state_of r hedges trees w) rooms → AreHeld IsOf r (state_of r hedges trees true) rooms
-whole_held IsOf r hedges trees rooms w e is = subst (λ v. AreHeld IsOf r (state_of r hedges trees v) rooms) e is
+pub taken_row : {s a : RowState} → s ≡ a → (lists : RowState → List (List ℕ)) (h : ℕ) → h < length (lists a) → {ns items : List ℕ} → slice_get (lists s) h ≡ Some ns → items ≡ ns → (h < length (lists s)) × (items ≡ get_or (lists s) h [])
+taken_row {s} e lists h low {ns} {items} at same = (subst (λ b. h < length (lists b)) (sym e) low, taken (lists s) h ns items at same)
 
 -- rows and rooms before and after a row is worked out
-pub record Worked (IsOf : Triple → Type 0) (r q : Rows) (hedges trees : List (List ℕ)) (rooms moved : Rooms) : Type 0 where
+pub record Worked (IsOf : Triple → Type 0) (a : RowState) (r q : Rows) (hedges trees : List (List ℕ)) (rooms moved : Rooms) : Type 0 where
   pub was : AreHeld IsOf r (state_of r hedges trees true) rooms
+  pub old : state_of r hedges trees true ≡ a
   pub same : AreSameRows r q
   pub stand : (x : Triple) → AreRowsOf x r → AreRowsOf x q
   pub ext : Extends r.outputs q.outputs
   pub beside : Moved rooms moved
 
-module _ {IsOf : Triple → Type 0} {r q : Rows} {hedges trees : List (List ℕ)} {rooms moved : Rooms} (w : Worked IsOf r q hedges trees rooms moved) where
+pub worked : {IsOf : Triple → Type 0} {r : Rows} {hedges trees : List (List ℕ)} {rooms : Rooms} {v : Bool} {a : RowState} → v ≡ true → AreHeld IsOf r (state_of r hedges trees v) rooms → state_of r hedges trees v ≡ a → (q : Rows) → AreSameRows r q
+    → ((x : Triple) → AreRowsOf x r → AreRowsOf x q) → Extends r.outputs q.outputs → (moved : Rooms) → Moved rooms moved → Worked IsOf a r q hedges trees rooms moved
+worked {IsOf} {r} {hedges} {trees} {rooms} {v} {a} whole held is q same stand ext moved beside =
+    record { was = subst (λ b. AreHeld IsOf r (state_of r hedges trees b) rooms) whole held; old = subst (λ b. state_of r hedges trees b ≡ a) whole is; same = same; stand = stand; ext = ext; beside = beside }
+
+module _ {IsOf : Triple → Type 0} {a : RowState} {r q : Rows} {hedges trees : List (List ℕ)} {rooms moved : Rooms} (w : Worked IsOf a r q hedges trees rooms moved) where
   abbrev before : RowState
   before = state_of r hedges trees true
 
@@ -98,14 +105,25 @@ module _ {IsOf : Triple → Type 0} {r q : Rows} {hedges trees : List (List ℕ)
   goods : Each IsOf (λ x. AreGood x before)
   goods x o = w.was.good x (w.was.over x o)
 
-  pub grows_as : (v : Bool) (a : RowState) → before ≡ a → settle.Grows (held_of IsOf a) (held_of IsOf (state_of q hedges trees v))
-  grows_as v a e = subst (λ b. settle.Grows (held_of IsOf b) (held_of IsOf (state_of q hedges trees v))) e (grows before (state_of q hedges trees v) (as_it_was v) IsOf goods)
+  pub grows_as : (v : Bool) → settle.Grows (held_of IsOf a) (held_of IsOf (state_of q hedges trees v))
+  grows_as v = subst (λ b. settle.Grows (held_of IsOf b) (held_of IsOf (state_of q hedges trees v))) w.old (grows before (state_of q hedges trees v) (as_it_was v) IsOf goods)
 
-  pub grows_hedge : {after : List (List ℕ)} {n : ℕ} {ns : List ℕ} → Keeps hedges after n ns → (a : RowState) → before ≡ a → settle.Grows (held_of IsOf a) (held_of IsOf (state_of q after trees true))
-  grows_hedge {after} keep a e = subst (λ b. settle.Grows (held_of IsOf b) (held_of IsOf (state_of q after trees true))) e (grows before (state_of q after trees true) (with_hedge keep) IsOf goods)
+  pub grows_hedge : {after : List (List ℕ)} {n : ℕ} {ns : List ℕ} → Keeps hedges after n ns → settle.Grows (held_of IsOf a) (held_of IsOf (state_of q after trees true))
+  grows_hedge {after} keep = subst (λ b. settle.Grows (held_of IsOf b) (held_of IsOf (state_of q after trees true))) w.old (grows before (state_of q after trees true) (with_hedge keep) IsOf goods)
 
-  pub grows_tree : {after : List (List ℕ)} {n : ℕ} {ns : List ℕ} → Keeps trees after n ns → (a : RowState) → before ≡ a → settle.Grows (held_of IsOf a) (held_of IsOf (state_of q hedges after true))
-  grows_tree {after} keep a e = subst (λ b. settle.Grows (held_of IsOf b) (held_of IsOf (state_of q hedges after true))) e (grows before (state_of q hedges after true) (with_tree keep) IsOf goods)
+  pub grows_tree : {after : List (List ℕ)} {n : ℕ} {ns : List ℕ} → Keeps trees after n ns → settle.Grows (held_of IsOf a) (held_of IsOf (state_of q hedges after true))
+  grows_tree {after} keep = subst (λ b. settle.Grows (held_of IsOf b) (held_of IsOf (state_of q hedges after true))) w.old (grows before (state_of q hedges after true) (with_tree keep) IsOf goods)
+
+  -- what is known of kinds and of appends
+  module _ {k : Kinds} {p : Appends} (are : AreKnown IsOf r.outputs hedges trees k p) where
+    pub known_as : AreKnown IsOf q.outputs hedges trees k p
+    known_as = record { kinds = are.kinds; appends = told_on IsOf before (state_of q hedges trees true) (as_it_was true) goods p are.appends }
+
+    pub known_hedge : {after : List (List ℕ)} {n : ℕ} {ns : List ℕ} → Keeps hedges after n ns → AreKnown IsOf q.outputs after trees k p
+    known_hedge {after} {n} {ns} keep = record { kinds = true_hedge IsOf hedges after trees n ns k keep are.kinds; appends = told_on IsOf before (state_of q after trees true) (with_hedge keep) goods p are.appends }
+
+    pub known_tree : {after : List (List ℕ)} {n : ℕ} {ns : List ℕ} → Keeps trees after n ns → AreKnown IsOf q.outputs hedges after k p
+    known_tree {after} {n} {ns} keep = record { kinds = true_tree IsOf hedges trees after n ns k keep are.kinds; appends = told_on IsOf before (state_of q hedges after true) (with_tree keep) goods p are.appends }
 
   -- what holds of all, from what holds of the numbers
   held_with : (s : RowState) → ((x : Triple) → IsMachineOf x r.machine.now → AreGood x s) → AreHeld IsOf q s moved
@@ -246,14 +264,14 @@ module _ {IsOf : Triple → Type 0} {r q : Rows} {hedges trees : List (List ℕ)
       (count, λ x o. let (u, e) = (rows_are_lawful x (w.was.over x o).parts.are_rules.triple).there.text in full_by_tree x o u (inl (live x (stand_of x o), e)) (partly x u (stand_of x o) e))
 
   -- rows that are taken by their numbers
-  module _ (h : ℕ) (lh : h < length hedges) (hn : List ℕ) (eh : hn ≡ get_or hedges h []) where
+  module _ (h : ℕ) (lh : h < length hedges) {hn : List ℕ} (eh : hn ≡ get_or hedges h []) where
     abbrev hedge : Triple → HedgeRow
     hedge x = hedge_row x r.outputs.matrices hn
 
     hedge_is : (x : Triple) → hedge x ≡ hedge_at x before h
     hedge_is x = ap (λ ns. hedge_row x r.outputs.matrices ns) eh
 
-    module _ (t : ℕ) (lt : t < length trees) (tn : List ℕ) (et : tn ≡ get_or trees t []) where
+    module _ (t : ℕ) (lt : t < length trees) {tn : List ℕ} (et : tn ≡ get_or trees t []) where
       abbrev tree : Triple → TreeRow
       tree x = tree_row x r.outputs.matrices tn
 

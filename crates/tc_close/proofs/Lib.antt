@@ -7,6 +7,7 @@ pub mod Choosing
 pub mod Existing
 pub mod Keys
 pub mod Growing
+pub mod AppendLaws
 pub mod Linked
 pub mod Decided
 pub mod Holding

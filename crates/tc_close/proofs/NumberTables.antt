@@ -1,8 +1,8 @@
 -- Pairs that are remembered at places, each with a number.
-use Rattle.std.proofs.Common.{◌≡◌, ◌<◌, ◌⊎◌, inl, inr, ℕ, List, length, get_or, replicate, slice_set, Option, None, Some, refl, sym, ap, ◌∙◌, arith}
+use Rattle.std.proofs.Common.{◌≡◌, ◌<◌, ◌⊎◌, inl, inr, ℕ, List, length, get_or, replicate, slice_set, Option, None, Some, IfSome, refl, sym, subst, ap, ◌∙◌, arith}
 use Rattle.std.proofs.lemmas.Bool.{cases_eq}
 use Rattle.std.proofs.lemmas.List.{get_or-set_same, get_or-set_other, length-set, get_or-replicate, length-replicate}
-use Rattle.tc_close.specs.NumberTables.{numbered, HasNumber}
+use Rattle.tc_close.specs.NumberTables.{numbered, HasNumber, ComesOn}
 
 first_of : Option (ℕ × ℕ × ℕ) → ℕ
 first_of None = 0
@@ -39,3 +39,19 @@ no_number c xs same i j n (k, inside, at) =
 pub nothing_else : (IsOne : Option (ℕ × ℕ × ℕ) → Type 0) → ((p : ℕ × ℕ × ℕ) → IsOne (Some p) → ⊥) → (o : Option (ℕ × ℕ × ℕ)) → IsOne o → o ≡ None
 nothing_else IsOne none None is = refl
 nothing_else IsOne none (Some p) is = absurd (none p is)
+
+-- what stands at a place
+pub at_place : (xs : List (Option (ℕ × ℕ × ℕ))) (k : ℕ) (o : Option (ℕ × ℕ × ℕ)) → k < length xs → o ≡ get_or xs k o → IfSome o (λ p. HasNumber xs p.0 p.1 p.2)
+at_place xs k None low e = tt
+at_place xs k (Some p) low e = (k, low, sym e)
+
+-- what holds of all pairs and of the one that comes on
+pub all_more : (P : ℕ → ℕ → ℕ → Type 0) (a b m : ℕ) (xs ys : List (Option (ℕ × ℕ × ℕ))) → ComesOn a b m xs ys → ((i j n : ℕ) → HasNumber xs i j n → P i j n) → P a b m → (i j n : ℕ) → HasNumber ys i j n → P i j n
+all_more P a b m xs ys comes before here i j n at = by (comes i j n at)
+  where
+    by : HasNumber xs i j n ⊎ ((i ≡ a) × (j ≡ b) × (n ≡ m)) → P i j n
+    by (inl e) = before i j n e
+    by (inr (ei, ej, en)) = subst (λ k. P k j n) (sym ei) (subst (λ k. P a k n) (sym ej) (subst (P a b) (sym en) here))
+
+pub comes_twice : (a b m : ℕ) (xs ys zs : List (Option (ℕ × ℕ × ℕ))) → ComesOn a b m xs ys → ComesOn a b m ys zs → ComesOn a b m xs zs
+comes_twice a b m xs ys zs first second = all_more (λ i j n. HasNumber xs i j n ⊎ ((i ≡ a) × (j ≡ b) × (n ≡ m))) a b m ys zs second first (inr (refl, refl, refl))

@@ -1,15 +1,16 @@
 -- What is known of elements goes on holding where more rows are held, and holds of symbols alike and of lists of trees that agree.
-use Rattle.std.proofs.Common.{◌≡◌, ◌↔◌, ◌⊎◌, inl, inr, ◌<◌, ℕ, List, Option, None, Some, length, MatchOption, sym, subst, ◌∙◌, arith}
+use Rattle.std.proofs.Common.{◌↔◌, ◌<◌, ℕ, List, Option, None, Some, length, MatchOption, sym, subst, ◌∙◌, arith}
 use Rattle.tc_rows.specs.Triples.{Triple}
 use Rattle.tc_beh.specs.AlikeSymbols.{IsFirstAlike}
 use Rattle.tc_beh.proofs.AlikeLaws.{alike_alike}
 use Rattle.tc_settle.specs.Held.{Held, Grows, IsHeldAs, IsUnchanged, IsWrapAt}
 use Rattle.tc_close.specs.RowState.{RowState, hedge_at, tree_at, held_of}
 use Rattle.tc_close.specs.LookFree.{IsFreeSymbol, AgreeButLooks}
-use Rattle.tc_close.specs.NumberTables.{HasNumber}
+use Rattle.tc_close.specs.NumberTables.{HasNumber, ComesOn}
 use Rattle.tc_close.specs.Once.{AreKnown, AreOnce}
 use Rattle.tc_close.specs.declared.look_free.FreeSymbols.{FreeSymbols}
 use Rattle.tc_close.specs.declared.number_table.NumberTable.{NumberTable}
+use Rattle.tc_close.proofs.NumberTables.{all_more}
 use Rattle.tc_close.proofs.FreeWraps.{live_free, wrap_free, agree_back}
 
 -- nothing is known yet
@@ -22,17 +23,8 @@ known_on s r w grows before a h u has =
     (subst (λ n. a < n) (sym grows.symbols) few, omega (arith, low, grows.hedges), (omega (arith, here, grows.trees), grows.is_wrap a h u few low here is))
 
 -- one more is known
-known_more : (s : Held) (old new : NumberTable) (a h u : ℕ) → AreKnown s old → ((b j v : ℕ) → HasNumber new.places.items b j v → HasNumber old.places.items b j v ⊎ ((b ≡ a) × (j ≡ h) × (v ≡ u))) → a < s.symbols → h < s.hedges
-    → IsWrapAt s a h u → AreKnown s new
-known_more s old new a h u before learned few low here b j v has = by (learned b j v has)
-  where
-    by : HasNumber old.places.items b j v ⊎ ((b ≡ a) × (j ≡ h) × (v ≡ u)) → (b < s.symbols) × (j < s.hedges) × IsWrapAt s b j v
-    by (inl e) = before b j v e
-    by (inr (ea, eh, eu)) = (
-      subst (λ n. n < s.symbols) (sym ea) few,
-      subst (λ n. n < s.hedges) (sym eh) low,
-      subst (λ n. IsWrapAt s n j v) (sym ea) (subst (λ n. IsWrapAt s a n v) (sym eh) (subst (λ n. IsWrapAt s a h n) (sym eu) here)),
-    )
+known_more : (s : Held) (old new : NumberTable) (a h u : ℕ) → AreKnown s old → ComesOn a h u old.places.items new.places.items → a < s.symbols → h < s.hedges → IsWrapAt s a h u → AreKnown s new
+known_more s old new a h u before learned few low here = all_more (λ b j v. (b < s.symbols) × (j < s.hedges) × IsWrapAt s b j v) a h u old.places.items new.places.items learned before (few, low, here)
 
 module _ (IsOf : Triple → Type 0) where
   -- elements of a symbol that reads no look, around lists of trees that agree in all else
@@ -72,6 +64,6 @@ module _ (IsOf : Triple → Type 0) where
     pub once_on : (s r : RowState) → Grows (held_of IsOf s) (held_of IsOf r) → AreOnce IsOf s firsts f w → AreOnce IsOf r firsts f w
     once_on s r grows once = record { some = once.some; count = once.count ∙ sym grows.symbols; alike = once.alike; free = once.free; known = known_on (held_of IsOf s) (held_of IsOf r) w grows once.known }
 
-    pub once_more : (s : RowState) → AreOnce IsOf s firsts f w → (new : NumberTable) (a h u : ℕ) → ((b j v : ℕ) → HasNumber new.places.items b j v → HasNumber w.places.items b j v ⊎ ((b ≡ a) × (j ≡ h) × (v ≡ u))) → a < s.symbols → h < length s.hedges
+    pub once_more : (s : RowState) → AreOnce IsOf s firsts f w → (new : NumberTable) (a h u : ℕ) → ComesOn a h u w.places.items new.places.items → a < s.symbols → h < length s.hedges
         → IsWrapAt (held_of IsOf s) a h u → AreOnce IsOf s firsts f new
     once_more s once new a h u learned few low here = record { some = once.some; count = once.count; alike = once.alike; free = once.free; known = known_more (held_of IsOf s) w new a h u once.known learned few low here }

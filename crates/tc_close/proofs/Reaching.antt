@@ -1,5 +1,5 @@
 -- Where no round finds more than so many states, all states are reached, and they stand in tables.
-use Rattle.std.proofs.Common.{◌≡◌, inl, inr, ℕ, zero, suc, ◌+◌, ◌<◌, ◌≤◌, ◌^◌, List, [], ◌∷◌, ◌++◌, Bool, true, false, ◌||◌, refl, ap, sym, ◌∙◌, subst, map, filter, flat_map, length, get_or, Option, Some, None, slice_get, arith, if◌then◌else◌}
+use Rattle.std.proofs.Common.{◌≡◌, inl, inr, ℕ, zero, suc, ◌+◌, ◌<◌, ◌≤◌, ◌^◌, List, [], ◌∷◌, ◌++◌, Bool, true, false, ◌||◌, refl, ap, sym, ◌∙◌, subst, map, filter, flat_map, length, get_or, Option, Some, None, slice_get, arith, if◌then◌else◌, append-nil}
 use Rattle.std.specs.List.{list_any}
 use Rattle.std.proofs.lemmas.Bool.{true≢false}
 use Rattle.std.proofs.lemmas.List.{length-append, map-append}
@@ -26,10 +26,6 @@ none_of : {X : Type 0} (xs : List X) → length xs ≤ 0 → xs ≡ []
 none_of [] l = refl
 none_of (x ∷ xs) l = absurd (omega (arith, l))
 
-nothing_behind : {X : Type 0} (xs : List X) → xs ++ [] ≡ xs
-nothing_behind [] = refl
-nothing_behind (x ∷ xs) = ap (λ w. x ∷ w) (nothing_behind xs)
-
 module _ (counts : State → Bool) (next : State → Letter → State) (letters : List Letter) where
   abbrev Round : List State → List State
   Round xs = one_round counts next letters xs
@@ -40,7 +36,7 @@ module _ (counts : State → Bool) (next : State → Letter → State) (letters 
       let more = each_once_after same_state xs (leads_of counts next letters xs) in
       let is : Round xs ≡ xs ++ more = round_puts counts next letters xs h ∙ put_is same_state xs (leads_of counts next letters xs) in
       let few : length more ≤ 0 = omega (arith, l, ap length is, length-append xs more) in
-      is ∙ (ap (λ w. xs ++ w) (none_of more few) ∙ nothing_behind xs)
+      is ∙ (ap (λ w. xs ++ w) (none_of more few) ∙ append-nil xs)
 
   rounds_once : (n : ℕ) (xs : List State) → IsOnce same_state xs → IsOnce same_state (rounds counts next letters n xs)
   rounds_once zero xs h = h

@@ -6,6 +6,7 @@ pub mod RowState
 pub mod Settling
 pub mod HeldRows
 pub mod NumberTables
+pub mod Appends
 pub mod LookFree
 pub mod Kinds
 pub mod Orders

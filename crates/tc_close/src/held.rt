@@ -2,7 +2,7 @@
 // They lie in an `indexmap` set, each as a vector of numbers, which looks them up and keeps the order in
 // which they came. A row is looked up by its numbers, since rooms of equal numbers stand for equal rows
 // (`law_of_rooms` of `tc_beh`).
-ghost use Rattle.std.specs.Prelude.{◌≡◌, ◌<◌, ◌≤◌, [], length, All, IfOk, true};
+ghost use Rattle.std.specs.Prelude.{◌≡◌, ◌<◌, ◌≤◌, [], length, All, IfOk, IfSome, true};
 ghost use Rattle.tc_beh.specs.Held.{set_at};
 ghost use Rattle.tc_beh.specs.Machines.{IsMachineOf, IsShapeOf};
 ghost use Rattle.tc_beh.specs.Places.{pairs_of};
@@ -11,7 +11,9 @@ ghost use Rattle.tc_close.specs.LookFree.{AgreeButLooks};
 ghost use Rattle.tc_close.specs.Lines.{tree_held, hedge_held};
 ghost use Rattle.tc_close.specs.RowState.{Known, hedge_at, held_of};
 ghost use Rattle.tc_rows.specs.Triples.{Triple};
+ghost use Rattle.tc_settle.specs.Held.{IsAppendAt};
 
+use crate::appends::{Appends, HeldLists};
 use crate::kinds::Kinds;
 use crate::lists::Lists;
 use crate::over::Over;
@@ -33,6 +35,7 @@ pub(crate) struct HeldRows<'m, 'b, K: Over> {
     trees: Lists,
     rooms: Rooms,
     kinds: Kinds,
+    appends: Appends,
     /// No row was refused.
     is_whole: bool,
     over: PhantomData<K>,
@@ -40,14 +43,13 @@ pub(crate) struct HeldRows<'m, 'b, K: Over> {
 
 impl<'m, 'b, K: Over> Model for HeldRows<'m, 'b, K> {
     ghost use Rattle.tc_close.specs.RowState.{RowState};
-    ghost use Rattle.tc_close.specs.HeldRows.{AreHeld, state_of};
-    ghost use Rattle.tc_close.specs.Kinds.{AreTrue};
+    ghost use Rattle.tc_close.specs.HeldRows.{AreHeld, AreKnown, state_of};
 
     ghost Value = { RowState };
 
     ghost view = { λ p. state_of p.rows p.hedges p.trees p.is_whole };
 
-    ghost invariant = { λ p. AreHeld K.is_of p.rows (state_of p.rows p.hedges p.trees p.is_whole) p.rooms × AreTrue K.is_of p.hedges p.trees p.kinds };
+    ghost invariant = { λ p. AreHeld K.is_of p.rows (state_of p.rows p.hedges p.trees p.is_whole) p.rooms × AreKnown K.is_of p.rows.outputs p.hedges p.trees p.kinds p.appends };
 }
 
 /// Why a row can't be held.
@@ -72,7 +74,9 @@ impl<'m, 'b, K: Over> HeldRows<'m, 'b, K> {
         ensures trees { IfOk result (λ r. r.trees ≡ []) }
     {
         let rooms = Rooms::new(alloc, machine)?;
-        let kinds = Kinds::new(alloc, machine.shape())?;
+        let shape = machine.shape();
+        let kinds = Kinds::new(alloc, shape)?;
+        let appends = Appends::new(alloc, shape)?;
         let rows = Rows::new(alloc, machine)?;
         Ok(HeldRows {
             rows,
@@ -80,6 +84,7 @@ impl<'m, 'b, K: Over> HeldRows<'m, 'b, K> {
             trees: Lists::new(alloc),
             rooms,
             kinds,
+            appends,
             is_whole: true,
             over: PhantomData,
         })
@@ -175,6 +180,36 @@ impl<'m, 'b, K: Over> HeldRows<'m, 'b, K> {
             → AgreeButLooks (hedge_at x self.old result) (hedge_at x self.old hedge) }
     {
         self.kinds.core(&self.hedges, hedge)
+    }
+
+    /// The list of trees that one is with a tree behind it, if that is known.
+    pub(crate) fn known_append(&self, hedge: u32, tree: u32) -> Option<u32>
+        requires hedge { hedge < length self.now.hedges }
+        requires tree { tree < length self.now.trees }
+        ensures { IfSome result (IsAppendAt (held_of K.is_of self.now) hedge tree) }
+    {
+        if !self.appends.are_even(hedge, tree) || self.kinds.is_dead_append(hedge, tree) {
+            return None;
+        }
+        let lists = HeldLists {
+            hedges: &self.hedges,
+            trees: &self.trees,
+        };
+        self.appends.known(lists, hedge, tree)
+    }
+
+    /// Learns which list of trees one is with a tree behind it.
+    pub(crate) fn learn_append(&mut self, hedge: u32, tree: u32, made: u32)
+        requires hedge { hedge < length self.old.hedges }
+        requires tree { tree < length self.old.trees }
+        requires told { IsAppendAt (held_of K.is_of self.old) hedge tree made }
+        ensures { self.new ≡ self.old }
+    {
+        let lists = HeldLists {
+            hedges: &self.hedges,
+            trees: &self.trees,
+        };
+        self.appends.learn(lists, hedge, tree, made);
     }
 
     /// Whether no row was refused.

@@ -11,7 +11,7 @@ use tc_base::NoMemory;
 use tc_beh::Shape;
 
 /// How many numbers stand before the flags of a row.
-const HEADS: usize = 2;
+pub(crate) const HEADS: usize = 2;
 
 /// Lists of numbers by their kind: for each of the first lists the place of one that is like it.
 #[derive(Drop)]
@@ -39,7 +39,7 @@ fn sum_of(flags: usize, numbers: &[u32]) -> u64
 }
 
 /// Whether two lists have the same number at the front and the same flags.
-fn are_alike(flags: usize, first: &[u32], second: &[u32]) -> bool
+pub(crate) fn are_alike(flags: usize, first: &[u32], second: &[u32]) -> bool
     requires { flags ≤ 8589934590 }
     ensures { IsTrue result → AreAlike flags first.now second.now }
 {
@@ -64,7 +64,7 @@ fn put_first(
 }
 
 /// Whether two rows bear alike.
-fn bear_alike(first: &[u32], second: &[u32]) -> bool
+pub(crate) fn bear_alike(first: &[u32], second: &[u32]) -> bool
     ensures { IsTrue result → get_or first.now 1 0 ≡ get_or second.now 1 0 }
 {
     match (first.get(1), second.get(1)) {

@@ -2,6 +2,7 @@
 //! and a certificate of that, or a least counterexample where it isn't.
 #![tactic(auto)]
 
+mod appends;
 mod certificate;
 mod decision;
 mod held;

@@ -25,7 +25,7 @@ impl Default for NumberHasher {
 }
 
 /// The state after a number.
-fn step(state: u64, number: u32) -> u64
+pub(crate) fn step(state: u64, number: u32) -> u64
     ensures { result ≡ stepped state number }
 {
     (state ^ u64::from(number)).wrapping_mul(MULTIPLIER)

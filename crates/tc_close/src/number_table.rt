@@ -1,6 +1,6 @@
 // Pairs of numbers for which a number is remembered for a while.
-ghost use Rattle.std.specs.Prelude.{◌≡◌, ◌<◌, ◌⊎◌, ℕ, length, IfOk, IfSome};
-ghost use Rattle.tc_close.specs.NumberTables.{HasNumber};
+ghost use Rattle.std.specs.Prelude.{◌≡◌, ℕ, length, IfOk, IfSome};
+ghost use Rattle.tc_close.specs.NumberTables.{ComesOn, HasNumber};
 
 use crate::number_hasher::MULTIPLIER;
 use std::alloc::Global;
@@ -17,11 +17,9 @@ pub(crate) struct NumberTable {
 }
 
 /// Where a pair is remembered. Pairs with the same second number, whose first ones are near, have different places.
-fn place_of(first: u32, second: u32) -> usize
-    ensures { result < 16384 }
-{
+fn place_of(first: u32, second: u32) -> usize {
     let begin = u64::from(second).wrapping_mul(MULTIPLIER) >> 40;
-    u64::from(first).wrapping_add(begin) as usize % REMEMBERED
+    u64::from(first).wrapping_add(begin) as usize
 }
 
 impl NumberTable {
@@ -37,11 +35,25 @@ impl NumberTable {
         Ok(NumberTable { places })
     }
 
+    /// What is remembered at a place.
+    pub(crate) fn at(&self, place: usize) -> Option<(u32, u32, u32)>
+        ensures { IfSome result (λ p. HasNumber self.now.places.items p.0 p.1 p.2) }
+    {
+        self.places[place % REMEMBERED]
+    }
+
+    /// Remembers a pair and its number at a place.
+    pub(crate) fn put_at(&mut self, place: usize, pair: (u32, u32, u32))
+        ensures { ComesOn pair.0 pair.1 pair.2 self.old.places.items self.new.places.items }
+    {
+        self.places[place % REMEMBERED] = Some(pair);
+    }
+
     /// The number of a pair, if it is remembered.
     pub(crate) fn get(&self, first: u32, second: u32) -> Option<u32>
         ensures { IfSome result (λ n. HasNumber self.now.places.items first second n) }
     {
-        let (one, other, number) = self.places[place_of(first, second)]?;
+        let (one, other, number) = self.at(place_of(first, second))?;
         if one == first && other == second {
             Some(number)
         } else {
@@ -51,10 +63,8 @@ impl NumberTable {
 
     /// Remembers the number of a pair.
     pub(crate) fn put(&mut self, first: u32, second: u32, number: u32)
-        ensures { (i j n : ℕ) → HasNumber self.new.places.items i j n
-            → HasNumber self.old.places.items i j n
-            ⊎ ((i ≡ first) × (j ≡ second) × (n ≡ number)) }
+        ensures { ComesOn first second number self.old.places.items self.new.places.items }
     {
-        self.places[place_of(first, second)] = Some((first, second, number));
+        self.put_at(place_of(first, second), (first, second, number));
     }
 }

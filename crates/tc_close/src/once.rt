@@ -1,6 +1,7 @@
 // Rows over a machine, where elements that nothing tells apart are worked out once.
 // Nothing tells elements of symbols alike apart, and where a symbol reads no look, nothing tells apart elements of it around
 // lists of trees that differ in looks alone. What came of them is told from a table, so that rows come on in the same order.
+// An append that others tell isn't worked out either.
 use crate::held::HeldRows;
 use crate::look_free::FreeSymbols;
 use crate::number_table::NumberTable;
@@ -182,7 +183,14 @@ impl<'m, 'b, K: Over> NumberedRows for OnceRows<'m, 'b, K> {
     }
 
     fn append(&mut self, hedge: u32, tree: u32) -> Result<Option<u32>, HoldFault> {
-        self.rows.append(hedge, tree)
+        if let Some(made) = self.rows.known_append(hedge, tree) {
+            return Ok(Some(made));
+        }
+        let appended = self.rows.append(hedge, tree);
+        if let Ok(Some(made)) = appended {
+            self.rows.learn_append(hedge, tree, made);
+        }
+        appended
     }
 
     fn wrap(&mut self, symbol: u32, hedge: u32) -> Result<Option<u32>, HoldFault> {

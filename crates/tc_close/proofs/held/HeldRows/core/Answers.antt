@@ -10,10 +10,10 @@ pub core-requires-clause-hedge : goal.core-requires-clause-hedge
 core-requires-clause-hedge g c = subst (λ (s : RowState). c.args.hedge < length s.hedges) (sym c.self.view_is) c.requires
 
 pub core-requires-clause-fit : goal.core-requires-clause-fit
-core-requires-clause-fit g c = c.self.invariant.1.fit.of_cores
+core-requires-clause-fit g c = c.self.invariant.1.kinds.fit.of_cores
 
 pub invariant_of-self : goal.invariant_of-self
-invariant_of-self g c = (c.self.invariant.0, learned_core c.self.invariant.1 c.core.new.self c.core.ensures.learns)
+invariant_of-self g c = (c.self.invariant.0, record { appends = c.self.invariant.1.appends; kinds = learned_core c.self.invariant.1.kinds c.core.new.self c.core.ensures.learns })
 
 pub returns-clause-low : goal.returns-clause-low
 returns-clause-low g c = subst (λ (s : RowState). c.core.result < length s.hedges) c.self.view_is c.core.ensures.core.like.0
@@ -22,7 +22,7 @@ pub returns-clause-agree : goal.returns-clause-agree
 returns-clause-agree g c = λ x o.
     let hedges = c.self.inside.hedges in
     let is = c.core.ensures.core in
-    let flags = c.core.ensures.learns.core_stays ∙ c.self.invariant.1.core x o in
+    let flags = c.core.ensures.learns.core_stays ∙ c.self.invariant.1.kinds.core x o in
     subst (λ (s : RowState). AgreeButLooks (hedge_at x s c.core.result) (hedge_at x s c.args.hedge)) c.self.view_is
     (core_agrees x c.self.inside.rows.outputs.matrices (get_or hedges c.core.result []) (get_or hedges c.args.hedge [])
     (subst (λ n. AreAlike n (get_or hedges c.core.result []) (get_or hedges c.args.hedge [])) flags is.like.1) is.bears)

@@ -1,4 +1,6 @@
 use Rattle.std.proofs.Common.{◌<◌, length, subst, sym, refl}
+use Rattle.tc_mat.specs.Held as mat
+use Rattle.tc_close.specs.HeldRows.{AreKnown}
 use Rattle.tc_close.proofs.Holding.{tree_fits, are_rows, tree_stands, taken, tested, same_rows, same_room, passes_or_fails, not_admitted}
 use Rattle.tc_close.proofs.held.HeldRowsNumberedRows.is_failing.Goals as goal
 
@@ -25,7 +27,7 @@ root_ok-requires-clause-tree g c =
 
 pub invariant_of-self : goal.invariant_of-self
 invariant_of-self g c =
-    (tested c.self.invariant.0 c.root_ok.new.self c.root_ok.ensures.same c.root_ok.ensures.rows c.root_ok.ensures.outputs (record { hedge = c.self.inside.rooms.hedge; tree = c.load.new.self; new_hedge = c.self.inside.rooms.new_hedge; new_tree = c.self.inside.rooms.new_tree }) (record { hedge = same_room c.self.inside.rooms.hedge.room; tree = c.load.ensures.beside; new_hedge = same_room c.self.inside.rooms.new_hedge.room; new_tree = same_room c.self.inside.rooms.new_tree.room }), c.self.invariant.1)
+    (tested c.self.invariant.0 c.root_ok.new.self c.root_ok.ensures.same c.root_ok.ensures.rows c.root_ok.ensures.outputs (record { hedge = c.self.inside.rooms.hedge; tree = c.load.new.self; new_hedge = c.self.inside.rooms.new_hedge; new_tree = c.self.inside.rooms.new_tree }) (record { hedge = same_room c.self.inside.rooms.hedge.room; tree = c.load.ensures.beside; new_hedge = same_room c.self.inside.rooms.new_hedge.room; new_tree = same_room c.self.inside.rooms.new_tree.room }), subst (λ (o : mat.Held). AreKnown g.K.Over.is_of o c.self.inside.hedges c.self.inside.trees c.self.inside.kinds c.self.inside.appends) (sym c.root_ok.ensures.outputs) c.self.invariant.1)
 
 pub invariant_of-self-else-admitted : goal.invariant_of-self-else-admitted
 invariant_of-self-else-admitted g c =

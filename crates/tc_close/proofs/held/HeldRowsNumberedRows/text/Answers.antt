@@ -1,11 +1,9 @@
-use Rattle.std.proofs.Common.{◌≡◌, ◌⊎◌, ◌++◌, ◌∷◌, [], ℕ, List, length, true, false, slice_get, Some, Err, subst, sym, ap, ◌∙◌, refl}
+use Rattle.std.proofs.Common.{◌≡◌, ℕ, List, length, true, false, Err, subst, sym, ap, ◌∙◌, refl}
 use Rattle.tc_settle.specs.Held.{IsHeldAs, Grows}
 use Rattle.tc_close.specs.RowState.{RowState, held_of}
-use Rattle.tc_close.specs.HeldRows.{state_of, AreHeld}
-use Rattle.tc_close.proofs.Growing.{Keeps, keeps, grows_self}
-use Rattle.tc_close.proofs.Holding.{Worked, whole_held, whole_state, same_room, are_rows, refused, grows_as, grows_tree, tree_came, new_tree_parted, full_text, made_text, dead}
-use Rattle.tc_close.specs.Kinds.{AreTrue}
-use Rattle.tc_close.proofs.KindLaws.{true_tree}
+use Rattle.tc_close.specs.HeldRows.{state_of, AreHeld, AreKnown}
+use Rattle.tc_close.proofs.Growing.{kept, grows_self}
+use Rattle.tc_close.proofs.Holding.{worked, same_room, are_rows, refused, grows_as, grows_tree, known_as, known_tree, tree_came, new_tree_parted, full_text, made_text, dead}
 use Rattle.tc_close.proofs.held.HeldRowsNumberedRows.text.Goals as goal
 
 pub text_row-requires-clause-rows : goal.text_row-requires-clause-rows
@@ -17,43 +15,28 @@ text_row-requires-clause-room g c = new_tree_parted c.self.invariant.0
 -- dead
 pub invariant_of-self : goal.invariant_of-self
 invariant_of-self g c =
-    let whole : c.self.inside.is_whole ≡ true = c.if-not-self.false in
-    let w : Worked g.K.Over.is_of c.self.inside.rows c.text_row.new.self c.self.inside.hedges c.self.inside.trees c.self.inside.rooms (record { hedge = c.self.inside.rooms.hedge; tree = c.self.inside.rooms.tree; new_hedge = c.self.inside.rooms.new_hedge; new_tree = c.text_row.new.out }) =
-    record { was = whole_held g.K.Over.is_of c.self.inside.rows c.self.inside.hedges c.self.inside.trees c.self.inside.rooms c.self.inside.is_whole whole c.self.invariant.0; same = c.text_row.ensures.same; stand = c.text_row.ensures.rows; ext = c.text_row.ensures.held; beside = record { hedge = same_room c.self.inside.rooms.hedge.room; tree = same_room c.self.inside.rooms.tree.room; new_hedge = same_room c.self.inside.rooms.new_hedge.room; new_tree = c.text_row.ensures.room } } in
-    let old : state_of c.self.inside.rows c.self.inside.hedges c.self.inside.trees true ≡ c.args.self.now = whole_state c.self.inside.rows c.self.inside.hedges c.self.inside.trees c.self.inside.is_whole c.args.self.now whole c.self.view_is in
-    (dead w (c.in-Ok-false.ensures.dead c.in-Ok-false.field-0-test).0, c.self.invariant.1)
+    let w = worked c.if-not-self.false c.self.invariant.0 c.self.view_is c.text_row.new.self c.text_row.ensures.same c.text_row.ensures.rows c.text_row.ensures.held (record { hedge = c.self.inside.rooms.hedge; tree = c.self.inside.rooms.tree; new_hedge = c.self.inside.rooms.new_hedge; new_tree = c.text_row.new.out }) (record { hedge = same_room c.self.inside.rooms.hedge.room; tree = same_room c.self.inside.rooms.tree.room; new_hedge = same_room c.self.inside.rooms.new_hedge.room; new_tree = c.text_row.ensures.room }) in
+    (dead w (c.in-Ok-false.ensures.dead c.in-Ok-false.field-0-test).0, known_as w c.self.invariant.1)
 
 pub returns-in-Ok-false-clause-grows : goal.returns-in-Ok-false-clause-grows
 returns-in-Ok-false-clause-grows g c =
-    let whole : c.self.inside.is_whole ≡ true = c.if-not-self.false in
-    let w : Worked g.K.Over.is_of c.self.inside.rows c.text_row.new.self c.self.inside.hedges c.self.inside.trees c.self.inside.rooms (record { hedge = c.self.inside.rooms.hedge; tree = c.self.inside.rooms.tree; new_hedge = c.self.inside.rooms.new_hedge; new_tree = c.text_row.new.out }) =
-    record { was = whole_held g.K.Over.is_of c.self.inside.rows c.self.inside.hedges c.self.inside.trees c.self.inside.rooms c.self.inside.is_whole whole c.self.invariant.0; same = c.text_row.ensures.same; stand = c.text_row.ensures.rows; ext = c.text_row.ensures.held; beside = record { hedge = same_room c.self.inside.rooms.hedge.room; tree = same_room c.self.inside.rooms.tree.room; new_hedge = same_room c.self.inside.rooms.new_hedge.room; new_tree = c.text_row.ensures.room } } in
-    let old : state_of c.self.inside.rows c.self.inside.hedges c.self.inside.trees true ≡ c.args.self.now = whole_state c.self.inside.rows c.self.inside.hedges c.self.inside.trees c.self.inside.is_whole c.args.self.now whole c.self.view_is in
-    grows_as w true c.args.self.now old
+    let w = worked c.if-not-self.false c.self.invariant.0 c.self.view_is c.text_row.new.self c.text_row.ensures.same c.text_row.ensures.rows c.text_row.ensures.held (record { hedge = c.self.inside.rooms.hedge; tree = c.self.inside.rooms.tree; new_hedge = c.self.inside.rooms.new_hedge; new_tree = c.text_row.new.out }) (record { hedge = same_room c.self.inside.rooms.hedge.room; tree = same_room c.self.inside.rooms.tree.room; new_hedge = same_room c.self.inside.rooms.new_hedge.room; new_tree = c.text_row.ensures.room }) in
+    grows_as w true
 
 -- refused
 pub invariant_of-self-in-Err : goal.invariant_of-self-in-Err
 invariant_of-self-in-Err g c =
-    let whole : c.self.inside.is_whole ≡ true = c.if-not-self.false in
-    let w : Worked g.K.Over.is_of c.self.inside.rows c.text_row.new.self c.self.inside.hedges c.self.inside.trees c.self.inside.rooms (record { hedge = c.self.inside.rooms.hedge; tree = c.self.inside.rooms.tree; new_hedge = c.self.inside.rooms.new_hedge; new_tree = c.text_row.new.out }) =
-    record { was = whole_held g.K.Over.is_of c.self.inside.rows c.self.inside.hedges c.self.inside.trees c.self.inside.rooms c.self.inside.is_whole whole c.self.invariant.0; same = c.text_row.ensures.same; stand = c.text_row.ensures.rows; ext = c.text_row.ensures.held; beside = record { hedge = same_room c.self.inside.rooms.hedge.room; tree = same_room c.self.inside.rooms.tree.room; new_hedge = same_room c.self.inside.rooms.new_hedge.room; new_tree = c.text_row.ensures.room } } in
-    let old : state_of c.self.inside.rows c.self.inside.hedges c.self.inside.trees true ≡ c.args.self.now = whole_state c.self.inside.rows c.self.inside.hedges c.self.inside.trees c.self.inside.is_whole c.args.self.now whole c.self.view_is in
-    (refused w, c.self.invariant.1)
+    let w = worked c.if-not-self.false c.self.invariant.0 c.self.view_is c.text_row.new.self c.text_row.ensures.same c.text_row.ensures.rows c.text_row.ensures.held (record { hedge = c.self.inside.rooms.hedge; tree = c.self.inside.rooms.tree; new_hedge = c.self.inside.rooms.new_hedge; new_tree = c.text_row.new.out }) (record { hedge = same_room c.self.inside.rooms.hedge.room; tree = same_room c.self.inside.rooms.tree.room; new_hedge = same_room c.self.inside.rooms.new_hedge.room; new_tree = c.text_row.ensures.room }) in
+    (refused w, known_as w c.self.invariant.1)
 
 pub returns-in-Err-clause-grows : goal.returns-in-Err-clause-grows
 returns-in-Err-clause-grows g c =
-    let whole : c.self.inside.is_whole ≡ true = c.if-not-self.false in
-    let w : Worked g.K.Over.is_of c.self.inside.rows c.text_row.new.self c.self.inside.hedges c.self.inside.trees c.self.inside.rooms (record { hedge = c.self.inside.rooms.hedge; tree = c.self.inside.rooms.tree; new_hedge = c.self.inside.rooms.new_hedge; new_tree = c.text_row.new.out }) =
-    record { was = whole_held g.K.Over.is_of c.self.inside.rows c.self.inside.hedges c.self.inside.trees c.self.inside.rooms c.self.inside.is_whole whole c.self.invariant.0; same = c.text_row.ensures.same; stand = c.text_row.ensures.rows; ext = c.text_row.ensures.held; beside = record { hedge = same_room c.self.inside.rooms.hedge.room; tree = same_room c.self.inside.rooms.tree.room; new_hedge = same_room c.self.inside.rooms.new_hedge.room; new_tree = c.text_row.ensures.room } } in
-    let old : state_of c.self.inside.rows c.self.inside.hedges c.self.inside.trees true ≡ c.args.self.now = whole_state c.self.inside.rows c.self.inside.hedges c.self.inside.trees c.self.inside.is_whole c.args.self.now whole c.self.view_is in
-    grows_as w false c.args.self.now old
+    let w = worked c.if-not-self.false c.self.invariant.0 c.self.view_is c.text_row.new.self c.text_row.ensures.same c.text_row.ensures.rows c.text_row.ensures.held (record { hedge = c.self.inside.rooms.hedge; tree = c.self.inside.rooms.tree; new_hedge = c.self.inside.rooms.new_hedge; new_tree = c.text_row.new.out }) (record { hedge = same_room c.self.inside.rooms.hedge.room; tree = same_room c.self.inside.rooms.tree.room; new_hedge = same_room c.self.inside.rooms.new_hedge.room; new_tree = c.text_row.ensures.room }) in
+    grows_as w false
 
 pub returns-in-Err-clause-full : goal.returns-in-Err-clause-full
 returns-in-Err-clause-full g c = λ f.
-    let whole : c.self.inside.is_whole ≡ true = c.if-not-self.false in
-    let w : Worked g.K.Over.is_of c.self.inside.rows c.text_row.new.self c.self.inside.hedges c.self.inside.trees c.self.inside.rooms (record { hedge = c.self.inside.rooms.hedge; tree = c.self.inside.rooms.tree; new_hedge = c.self.inside.rooms.new_hedge; new_tree = c.text_row.new.out }) =
-    record { was = whole_held g.K.Over.is_of c.self.inside.rows c.self.inside.hedges c.self.inside.trees c.self.inside.rooms c.self.inside.is_whole whole c.self.invariant.0; same = c.text_row.ensures.same; stand = c.text_row.ensures.rows; ext = c.text_row.ensures.held; beside = record { hedge = same_room c.self.inside.rooms.hedge.room; tree = same_room c.self.inside.rooms.tree.room; new_hedge = same_room c.self.inside.rooms.new_hedge.room; new_tree = c.text_row.ensures.room } } in
-    let old : state_of c.self.inside.rows c.self.inside.hedges c.self.inside.trees true ≡ c.args.self.now = whole_state c.self.inside.rows c.self.inside.hedges c.self.inside.trees c.self.inside.is_whole c.args.self.now whole c.self.view_is in
+    let w = worked c.if-not-self.false c.self.invariant.0 c.self.view_is c.text_row.new.self c.text_row.ensures.same c.text_row.ensures.rows c.text_row.ensures.held (record { hedge = c.self.inside.rooms.hedge; tree = c.self.inside.rooms.tree; new_hedge = c.self.inside.rooms.new_hedge; new_tree = c.text_row.new.out }) (record { hedge = same_room c.self.inside.rooms.hedge.room; tree = same_room c.self.inside.rooms.tree.room; new_hedge = same_room c.self.inside.rooms.new_hedge.room; new_tree = c.text_row.ensures.room }) in
     let is : c.text_row.result ≡ Err c.in-Err.fault = c.in-Err.is in
     let many = (c.text_row.ensures.full (is ∙ ap Err (c.hold_fault.ensures f))).1 in
     full_text w many c.in-Err.ensures.err c.in-Err.ensures.partly
@@ -61,60 +44,39 @@ returns-in-Err-clause-full g c = λ f.
 -- no room to keep it
 pub invariant_of-self-in_default : goal.invariant_of-self-in_default
 invariant_of-self-in_default g c =
-    let whole : c.self.inside.is_whole ≡ true = c.if-not-self.false in
-    let w : Worked g.K.Over.is_of c.self.inside.rows c.text_row.new.self c.self.inside.hedges c.self.inside.trees c.self.inside.rooms (record { hedge = c.self.inside.rooms.hedge; tree = c.self.inside.rooms.tree; new_hedge = c.self.inside.rooms.new_hedge; new_tree = c.text_row.new.out }) =
-    record { was = whole_held g.K.Over.is_of c.self.inside.rows c.self.inside.hedges c.self.inside.trees c.self.inside.rooms c.self.inside.is_whole whole c.self.invariant.0; same = c.text_row.ensures.same; stand = c.text_row.ensures.rows; ext = c.text_row.ensures.held; beside = record { hedge = same_room c.self.inside.rooms.hedge.room; tree = same_room c.self.inside.rooms.tree.room; new_hedge = same_room c.self.inside.rooms.new_hedge.room; new_tree = c.text_row.ensures.room } } in
-    let old : state_of c.self.inside.rows c.self.inside.hedges c.self.inside.trees true ≡ c.args.self.now = whole_state c.self.inside.rows c.self.inside.hedges c.self.inside.trees c.self.inside.is_whole c.args.self.now whole c.self.view_is in
-    (subst (λ (l : List (List ℕ)). AreHeld g.K.Over.is_of c.text_row.new.self (state_of c.text_row.new.self c.self.inside.hedges l false) (record { hedge = c.self.inside.rooms.hedge; tree = c.self.inside.rooms.tree; new_hedge = c.self.inside.rooms.new_hedge; new_tree = c.text_row.new.out })) (sym c.in_default.ensures.err) (refused w), subst (λ (l : List (List ℕ)). AreTrue g.K.Over.is_of c.self.inside.hedges l c.self.inside.kinds) (sym c.in_default.ensures.err) c.self.invariant.1)
+    let w = worked c.if-not-self.false c.self.invariant.0 c.self.view_is c.text_row.new.self c.text_row.ensures.same c.text_row.ensures.rows c.text_row.ensures.held (record { hedge = c.self.inside.rooms.hedge; tree = c.self.inside.rooms.tree; new_hedge = c.self.inside.rooms.new_hedge; new_tree = c.text_row.new.out }) (record { hedge = same_room c.self.inside.rooms.hedge.room; tree = same_room c.self.inside.rooms.tree.room; new_hedge = same_room c.self.inside.rooms.new_hedge.room; new_tree = c.text_row.ensures.room }) in
+    (subst (λ (l : List (List ℕ)). AreHeld g.K.Over.is_of c.text_row.new.self (state_of c.text_row.new.self c.self.inside.hedges l false) (record { hedge = c.self.inside.rooms.hedge; tree = c.self.inside.rooms.tree; new_hedge = c.self.inside.rooms.new_hedge; new_tree = c.text_row.new.out })) (sym c.in_default.ensures.err) (refused w), subst (λ (l : List (List ℕ)). AreKnown g.K.Over.is_of c.text_row.new.self.outputs c.self.inside.hedges l c.self.inside.kinds c.self.inside.appends) (sym c.in_default.ensures.err) (known_as w c.self.invariant.1))
 
 pub returns-in_default-clause-grows : goal.returns-in_default-clause-grows
 returns-in_default-clause-grows g c =
-    let whole : c.self.inside.is_whole ≡ true = c.if-not-self.false in
-    let w : Worked g.K.Over.is_of c.self.inside.rows c.text_row.new.self c.self.inside.hedges c.self.inside.trees c.self.inside.rooms (record { hedge = c.self.inside.rooms.hedge; tree = c.self.inside.rooms.tree; new_hedge = c.self.inside.rooms.new_hedge; new_tree = c.text_row.new.out }) =
-    record { was = whole_held g.K.Over.is_of c.self.inside.rows c.self.inside.hedges c.self.inside.trees c.self.inside.rooms c.self.inside.is_whole whole c.self.invariant.0; same = c.text_row.ensures.same; stand = c.text_row.ensures.rows; ext = c.text_row.ensures.held; beside = record { hedge = same_room c.self.inside.rooms.hedge.room; tree = same_room c.self.inside.rooms.tree.room; new_hedge = same_room c.self.inside.rooms.new_hedge.room; new_tree = c.text_row.ensures.room } } in
-    let old : state_of c.self.inside.rows c.self.inside.hedges c.self.inside.trees true ≡ c.args.self.now = whole_state c.self.inside.rows c.self.inside.hedges c.self.inside.trees c.self.inside.is_whole c.args.self.now whole c.self.view_is in
-    subst (λ (l : List (List ℕ)). Grows (held_of g.K.Over.is_of c.args.self.now) (held_of g.K.Over.is_of (state_of c.text_row.new.self c.self.inside.hedges l false))) (sym c.in_default.ensures.err) (grows_as w false c.args.self.now old)
+    let w = worked c.if-not-self.false c.self.invariant.0 c.self.view_is c.text_row.new.self c.text_row.ensures.same c.text_row.ensures.rows c.text_row.ensures.held (record { hedge = c.self.inside.rooms.hedge; tree = c.self.inside.rooms.tree; new_hedge = c.self.inside.rooms.new_hedge; new_tree = c.text_row.new.out }) (record { hedge = same_room c.self.inside.rooms.hedge.room; tree = same_room c.self.inside.rooms.tree.room; new_hedge = same_room c.self.inside.rooms.new_hedge.room; new_tree = c.text_row.ensures.room }) in
+    subst (λ (l : List (List ℕ)). Grows (held_of g.K.Over.is_of c.args.self.now) (held_of g.K.Over.is_of (state_of c.text_row.new.self c.self.inside.hedges l false))) (sym c.in_default.ensures.err) (grows_as w false)
 
 -- kept
 pub invariant_of-self-2 : goal.invariant_of-self-2
 invariant_of-self-2 g c =
-    let whole : c.self.inside.is_whole ≡ true = c.if-not-self.false in
-    let w : Worked g.K.Over.is_of c.self.inside.rows c.text_row.new.self c.self.inside.hedges c.self.inside.trees c.self.inside.rooms (record { hedge = c.self.inside.rooms.hedge; tree = c.self.inside.rooms.tree; new_hedge = c.self.inside.rooms.new_hedge; new_tree = c.text_row.new.out }) =
-    record { was = whole_held g.K.Over.is_of c.self.inside.rows c.self.inside.hedges c.self.inside.trees c.self.inside.rooms c.self.inside.is_whole whole c.self.invariant.0; same = c.text_row.ensures.same; stand = c.text_row.ensures.rows; ext = c.text_row.ensures.held; beside = record { hedge = same_room c.self.inside.rooms.hedge.room; tree = same_room c.self.inside.rooms.tree.room; new_hedge = same_room c.self.inside.rooms.new_hedge.room; new_tree = c.text_row.ensures.room } } in
-    let old : state_of c.self.inside.rows c.self.inside.hedges c.self.inside.trees true ≡ c.args.self.now = whole_state c.self.inside.rows c.self.inside.hedges c.self.inside.trees c.self.inside.is_whole c.args.self.now whole c.self.view_is in
+    let w = worked c.if-not-self.false c.self.invariant.0 c.self.view_is c.text_row.new.self c.text_row.ensures.same c.text_row.ensures.rows c.text_row.ensures.held (record { hedge = c.self.inside.rooms.hedge; tree = c.self.inside.rooms.tree; new_hedge = c.self.inside.rooms.new_hedge; new_tree = c.text_row.new.out }) (record { hedge = same_room c.self.inside.rooms.hedge.room; tree = same_room c.self.inside.rooms.tree.room; new_hedge = same_room c.self.inside.rooms.new_hedge.room; new_tree = c.text_row.ensures.room }) in
     let row = c.in-Ok-true.ensures.row c.in-Ok-true.field-0-test in
     let out = c.text_row.new.out.room in
-    let at : slice_get c.keep.new.self c.in-Ok.number ≡ Some out.numbers.items = c.in-Ok.ensures.place ∙ ap Some c.numbers.ensures in
-    let more = c.in-Ok.ensures.grows in
-    let keep : Keeps c.self.inside.trees c.keep.new.self c.in-Ok.number out.numbers.items = keeps c.self.inside.trees c.keep.new.self c.in-Ok.number out.numbers.items at (subst (λ ns. (c.keep.new.self ≡ c.self.inside.trees) ⊎ ((c.in-Ok.number ≡ length c.self.inside.trees) × (c.keep.new.self ≡ c.self.inside.trees ++ ns ∷ []))) c.numbers.ensures more) in
-    (tree_came w keep (λ x i. ((row x i).0.numbers, (row x i).1.row)) out c.text_row.ensures.room (c.in-Ok-true.ensures.grows c.in-Ok-true.field-0-test), true_tree g.K.Over.is_of c.self.inside.hedges c.self.inside.trees c.keep.new.self c.in-Ok.number out.numbers.items c.self.inside.kinds keep c.self.invariant.1)
+    let keep = kept c.in-Ok.ensures.place c.in-Ok.ensures.grows c.numbers.ensures in
+    (tree_came w keep (λ x i. ((row x i).0.numbers, (row x i).1.row)) out c.text_row.ensures.room (c.in-Ok-true.ensures.grows c.in-Ok-true.field-0-test), known_tree w c.self.invariant.1 keep)
 
 pub returns-clause-grows : goal.returns-clause-grows
 returns-clause-grows g c =
-    let whole : c.self.inside.is_whole ≡ true = c.if-not-self.false in
-    let w : Worked g.K.Over.is_of c.self.inside.rows c.text_row.new.self c.self.inside.hedges c.self.inside.trees c.self.inside.rooms (record { hedge = c.self.inside.rooms.hedge; tree = c.self.inside.rooms.tree; new_hedge = c.self.inside.rooms.new_hedge; new_tree = c.text_row.new.out }) =
-    record { was = whole_held g.K.Over.is_of c.self.inside.rows c.self.inside.hedges c.self.inside.trees c.self.inside.rooms c.self.inside.is_whole whole c.self.invariant.0; same = c.text_row.ensures.same; stand = c.text_row.ensures.rows; ext = c.text_row.ensures.held; beside = record { hedge = same_room c.self.inside.rooms.hedge.room; tree = same_room c.self.inside.rooms.tree.room; new_hedge = same_room c.self.inside.rooms.new_hedge.room; new_tree = c.text_row.ensures.room } } in
-    let old : state_of c.self.inside.rows c.self.inside.hedges c.self.inside.trees true ≡ c.args.self.now = whole_state c.self.inside.rows c.self.inside.hedges c.self.inside.trees c.self.inside.is_whole c.args.self.now whole c.self.view_is in
+    let w = worked c.if-not-self.false c.self.invariant.0 c.self.view_is c.text_row.new.self c.text_row.ensures.same c.text_row.ensures.rows c.text_row.ensures.held (record { hedge = c.self.inside.rooms.hedge; tree = c.self.inside.rooms.tree; new_hedge = c.self.inside.rooms.new_hedge; new_tree = c.text_row.new.out }) (record { hedge = same_room c.self.inside.rooms.hedge.room; tree = same_room c.self.inside.rooms.tree.room; new_hedge = same_room c.self.inside.rooms.new_hedge.room; new_tree = c.text_row.ensures.room }) in
     let row = c.in-Ok-true.ensures.row c.in-Ok-true.field-0-test in
     let out = c.text_row.new.out.room in
-    let at : slice_get c.keep.new.self c.in-Ok.number ≡ Some out.numbers.items = c.in-Ok.ensures.place ∙ ap Some c.numbers.ensures in
-    let more = c.in-Ok.ensures.grows in
-    let keep : Keeps c.self.inside.trees c.keep.new.self c.in-Ok.number out.numbers.items = keeps c.self.inside.trees c.keep.new.self c.in-Ok.number out.numbers.items at (subst (λ ns. (c.keep.new.self ≡ c.self.inside.trees) ⊎ ((c.in-Ok.number ≡ length c.self.inside.trees) × (c.keep.new.self ≡ c.self.inside.trees ++ ns ∷ []))) c.numbers.ensures more) in
-    grows_tree w keep c.args.self.now old
+    let keep = kept c.in-Ok.ensures.place c.in-Ok.ensures.grows c.numbers.ensures in
+    grows_tree w keep
 
 pub returns-clause-made : goal.returns-clause-made
 returns-clause-made g c =
-    let whole : c.self.inside.is_whole ≡ true = c.if-not-self.false in
-    let w : Worked g.K.Over.is_of c.self.inside.rows c.text_row.new.self c.self.inside.hedges c.self.inside.trees c.self.inside.rooms (record { hedge = c.self.inside.rooms.hedge; tree = c.self.inside.rooms.tree; new_hedge = c.self.inside.rooms.new_hedge; new_tree = c.text_row.new.out }) =
-    record { was = whole_held g.K.Over.is_of c.self.inside.rows c.self.inside.hedges c.self.inside.trees c.self.inside.rooms c.self.inside.is_whole whole c.self.invariant.0; same = c.text_row.ensures.same; stand = c.text_row.ensures.rows; ext = c.text_row.ensures.held; beside = record { hedge = same_room c.self.inside.rooms.hedge.room; tree = same_room c.self.inside.rooms.tree.room; new_hedge = same_room c.self.inside.rooms.new_hedge.room; new_tree = c.text_row.ensures.room } } in
-    let old : state_of c.self.inside.rows c.self.inside.hedges c.self.inside.trees true ≡ c.args.self.now = whole_state c.self.inside.rows c.self.inside.hedges c.self.inside.trees c.self.inside.is_whole c.args.self.now whole c.self.view_is in
+    let w = worked c.if-not-self.false c.self.invariant.0 c.self.view_is c.text_row.new.self c.text_row.ensures.same c.text_row.ensures.rows c.text_row.ensures.held (record { hedge = c.self.inside.rooms.hedge; tree = c.self.inside.rooms.tree; new_hedge = c.self.inside.rooms.new_hedge; new_tree = c.text_row.new.out }) (record { hedge = same_room c.self.inside.rooms.hedge.room; tree = same_room c.self.inside.rooms.tree.room; new_hedge = same_room c.self.inside.rooms.new_hedge.room; new_tree = c.text_row.ensures.room }) in
     let row = c.in-Ok-true.ensures.row c.in-Ok-true.field-0-test in
     let out = c.text_row.new.out.room in
-    let at : slice_get c.keep.new.self c.in-Ok.number ≡ Some out.numbers.items = c.in-Ok.ensures.place ∙ ap Some c.numbers.ensures in
-    let more = c.in-Ok.ensures.grows in
-    let keep : Keeps c.self.inside.trees c.keep.new.self c.in-Ok.number out.numbers.items = keeps c.self.inside.trees c.keep.new.self c.in-Ok.number out.numbers.items at (subst (λ ns. (c.keep.new.self ≡ c.self.inside.trees) ⊎ ((c.in-Ok.number ≡ length c.self.inside.trees) × (c.keep.new.self ≡ c.self.inside.trees ++ ns ∷ []))) c.numbers.ensures more) in
+    let keep = kept c.in-Ok.ensures.place c.in-Ok.ensures.grows c.numbers.ensures in
     let made = made_text w keep (c.in-Ok-true.ensures.live c.in-Ok-true.field-0-test) (λ x i. (row x i).1) in
-    (made, subst (λ n. IsHeldAs n (length c.keep.new.self) c.in-Ok.number) (ap (λ s. length s.trees) old) keep.held)
+    (made, subst (λ n. IsHeldAs n (length c.keep.new.self) c.in-Ok.number) (ap (λ s. length s.trees) w.old) keep.held)
 
 -- a row was refused before
 pub returns-then-not-self-clause-grows : goal.returns-then-not-self-clause-grows
