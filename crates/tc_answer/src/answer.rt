@@ -458,11 +458,17 @@ impl Answer {
         over(alloc, "names", MOST_NAMES as u32)
     }
 
-    /// The result of a run.
-    pub fn result(alloc: Global, nodes: &[Node<'_>]) -> Result<Answer, NoMemory>
-        ensures { IfOk result (λ said. Says said (a.has_result (trees nodes.now))) }
+    /// The result of a run, by its text.
+    pub fn written(text: Vec<u8>) -> Result<Answer, NoMemory>
+        ensures { IfOk result (λ said. (said.status ≡ Status.Yes)
+            × (see_text said.text ≡ line text.items)) }
     {
-        showing(alloc, Status::Yes, b"", nodes, b"\n")
+        let mut line = text;
+        line.push(b'\n')?;
+        Ok(Answer {
+            status: Status::Yes,
+            text: Text::Made(line),
+        })
     }
 
     /// A run instantiates and puts out too much.

@@ -1,10 +1,11 @@
 -- What a run gives decides: a result and each failure by its cause, and the causes exclude one another; and it is so of their texts.
-use Rattle.std.proofs.Common.{◌≡◌, ◌⊎◌, inl, inr, refl, sym, subst, ℕ, List, Ok, Err}
+use Rattle.std.proofs.Common.{◌≡◌, ◌⊎◌, inl, inr, refl, sym, subst, ℕ, List, Result, Ok, Err}
 use Rattle.std.specs.Prelude.{IfOk}
+use Rattle.std.specs.Global.{Vec}
 use Rattle.tc_base.specs.declared.Limit as kinds
 use Rattle.tc_decide.specs.Limits.{symbols_of_sheet, IsWithinSheetLimits, SheetPasses, IsRunWithin}
 use Rattle.tc_decide.specs.MachinesSeen.{IsCauseBy}
-use Rattle.tc_decide.specs.Running.{RunAnswer, AreRunAccepted, TellsRefusalOfRun, PassesRun, DecidesRun, TellsRunLimit}
+use Rattle.tc_decide.specs.Running.{AreRunAccepted, TellsRefusalOfRun, PassesRun, DecidesRun, TellsRunLimit}
 use Rattle.tc_decide.specs.RunningSeen.{of_run, IsRun, IsFoundOfRun}
 use Rattle.tc_decide.specs.TextsSeen.{of_limit, IsRefusalOf}
 use Rattle.tc_decide.specs.declared.failure.Failure.{Failure}
@@ -18,7 +19,6 @@ use Rattle.tc_decide.specs.declared.machine.LimitFault.TheVariants as limit
 use Rattle.tc_decide.proofs.Documents.{no_document, one_document}
 use Rattle.tc_decide.proofs.Passing.{over_sheet}
 use Rattle.tc_decide.proofs.Sheets.{no_sheet, one_sheet_of, over_work, over_open}
-use Rattle.tc_model.specs.Safety.{IsResultOf}
 use Rattle.tc_model.specs.Sheets.{Sheet}
 use Rattle.tc_model.specs.Trees.{Trees}
 use Rattle.tc_model.specs.Views as see
@@ -26,7 +26,7 @@ use Rattle.tc_print.specs.ReadBack.{IsReadAs}
 use Rattle.tc_read.specs.Refusals.{IsRefusedDocument, IsRefusedSheet}
 use Rattle.tc_read.specs.Sheets.{IsSheetOf}
 use Rattle.tc_read.specs.declared.faults.Reason.{Reason}
-use Rattle.tc_run.specs.Limits.{IsCause}
+use Rattle.tc_run.specs.Limits.{IsCause, IsTextOfResult}
 use Rattle.tc_run.specs.declared.RunFault.{RunFault}
 use Rattle.tc_run.specs.declared.RunFault.TheVariants as fault
 
@@ -41,18 +41,18 @@ module _ (s : Sheet) (d : Trees) where
   not_within Certificate number p w = absurd p
   not_within (Pieces measure) number p w = absurd p
 
-  pub run_decides : (answer : RunAnswer) → IsRun s d answer → (answer ≡ Err NoMemory) ⊎ DecidesRun s d answer
-  run_decides (Ok nodes) (w, r) = inr (record { yes = (λ _. w, λ _. tt); limit = (λ e. absurd e, λ (kind, number, p). absurd (not_within kind number p w)) })
+  pub run_decides : (answer : Result (Vec ℕ) Failure) → IsRun s d answer → (answer ≡ Err NoMemory) ⊎ DecidesRun s d answer
+  run_decides (Ok given) (w, r) = inr (record { yes = (λ _. w, λ _. tt); limit = (λ e. absurd e, λ (kind, number, p). absurd (not_within kind number p w)) })
   run_decides (Err (Refused which reason at)) f = absurd f
   run_decides (Err (Passes kind number)) p = inr (record { yes = (λ e. absurd e, λ w. absurd (not_within kind number p w)); limit = (λ _. (kind, number, p), λ _. tt) })
   run_decides (Err NoMemory) f = inl refl
 
-  pub gives : (answer : RunAnswer) → IsRun s d answer → IfOk answer (λ nodes. IsResultOf s d (see.trees nodes.now))
-  gives (Ok nodes) f = f.1
+  pub gives : (answer : Result (Vec ℕ) Failure) → IsRun s d answer → IfOk answer (λ text. IsTextOfResult s d text.items)
+  gives (Ok given) f = f.1
   gives (Err failure) f = tt
 
-  pub limits : (answer : RunAnswer) → IsRun s d answer → TellsRunLimit s d answer
-  limits (Ok nodes) f = tt
+  pub limits : (answer : Result (Vec ℕ) Failure) → IsRun s d answer → TellsRunLimit s d answer
+  limits (Ok given) f = tt
   limits (Err (Refused which reason at)) f = absurd f
   limits (Err (Passes kind number)) f = f
   limits (Err NoMemory) f = tt
@@ -69,17 +69,17 @@ module _ (s : Sheet) (d : Trees) where
 
 module _ (sheet document : List ℕ) where
   -- what is given of equal stylesheets and documents
-  found_at : (answer : RunAnswer) {s z : Sheet} {d e : Trees} → s ≡ z → d ≡ e → IsRun s d answer → IsRun z e answer
+  found_at : (answer : Result (Vec ℕ) Failure) {s z : Sheet} {d e : Trees} → s ≡ z → d ≡ e → IsRun s d answer → IsRun z e answer
   found_at answer {s} {z} {d} {e} a b x = subst (λ (w : Trees). IsRun z w answer) b (subst (λ (w : Sheet). IsRun w d answer) a x)
 
   -- whoever gives something has accepted the texts
-  tells : (s : Sheet) (d : Trees) (answer : RunAnswer) → AreRunAccepted sheet document → IsRun s d answer → TellsRefusalOfRun sheet document answer
-  tells s d (Ok nodes) a f = a
+  tells : (s : Sheet) (d : Trees) (answer : Result (Vec ℕ) Failure) → AreRunAccepted sheet document → IsRun s d answer → TellsRefusalOfRun sheet document answer
+  tells s d (Ok given) a f = a
   tells s d (Err (Refused which reason at)) a f = absurd f
   tells s d (Err (Passes kind number)) a f = a
   tells s d (Err NoMemory) a f = tt
 
-  pub found_of_run : (s : Sheet) (d : Trees) (answer : RunAnswer) → IsSheetOf sheet s → IsReadAs document d → IsRun s d answer → IsFoundOfRun sheet document answer
+  pub found_of_run : (s : Sheet) (d : Trees) (answer : Result (Vec ℕ) Failure) → IsSheetOf sheet s → IsReadAs document d → IsRun s d answer → IsFoundOfRun sheet document answer
   found_of_run s d answer a b f = record {
     refusal = tells s d answer (record { sheet_spells = (s, a); document_spells = (d, b) }) f;
     found = λ z e x y. found_at answer (one_sheet_of a x) (one_document b y) f;

@@ -1,6 +1,5 @@
 -- What a run of a stylesheet on a document gives, by their texts.
 use Rattle.std.specs.Prelude.{◌≡◌, ◌<◌, ◌↔◌, ℕ, List, Result, Ok, Err}
-use Rattle.std.specs.Borrow.{Bor}
 use Rattle.tc_base.specs.declared.limits.TheConstants.{MOST_WORK, MOST_OPEN}
 use Rattle.tc_decide.specs.Limits.{symbols_of_sheet, IsWithinSheetLimits, SheetPasses, IsRunWithin}
 use Rattle.tc_decide.specs.Told.{IsToldLimit}
@@ -15,18 +14,14 @@ use Rattle.tc_model.specs.Safety.{Transforms}
 use Rattle.tc_model.specs.Sheets.{Sheet}
 use Rattle.tc_model.specs.Trees.{Trees}
 use Rattle.tc_model.specs.Views.{place}
-use Rattle.tc_model.specs.declared.tree.Node.{Node}
 use Rattle.tc_print.specs.ReadBack.{IsReadAs}
 use Rattle.tc_read.specs.Refusals.{IsRefusedDocument, IsRefusedSheet}
 use Rattle.tc_read.specs.Sheets.{IsSheetOf}
 use Rattle.tc_read.specs.declared.faults.Reason.{Reason}
 
--- what a run gives: the result's trees, or why there is none
-abbrev pub RunAnswer : Type 0
-RunAnswer = Result (Bor (List Node)) Failure
-
-abbrev pub IsGiven : RunAnswer → Type 0
-IsGiven (Ok nodes) = Unit {0}
+-- something is given
+abbrev pub IsGiven : {V : Type 0} → Result V Failure → Type 0
+IsGiven (Ok given) = Unit {0}
 IsGiven (Err failure) = ⊥
 
 -- the texts spell a stylesheet and a document
@@ -42,8 +37,8 @@ IsFirstRefusedOfRun sheet document which.Sheet reason at = IsRefusedSheet sheet 
 IsFirstRefusedOfRun sheet document which.Document reason at = ((s : Sheet) × IsSheetOf sheet s) × IsRefusedDocument document reason at
 
 -- the text that is told to be refused is so, and where none is told to be, both are accepted
-abbrev pub TellsRefusalOfRun : List ℕ → List ℕ → RunAnswer → Type 0
-TellsRefusalOfRun sheet document (Ok nodes) = AreRunAccepted sheet document
+abbrev pub TellsRefusalOfRun : {V : Type 0} → List ℕ → List ℕ → Result V Failure → Type 0
+TellsRefusalOfRun sheet document (Ok given) = AreRunAccepted sheet document
 TellsRefusalOfRun sheet document (Err (Refused which reason at)) = IsFirstRefusedOfRun sheet document which reason (place at)
 TellsRefusalOfRun sheet document (Err (Passes kind number)) = AreRunAccepted sheet document
 TellsRefusalOfRun sheet document (Err NoMemory) = Unit {0}
@@ -65,11 +60,11 @@ module _ (s : Sheet) (d : Trees) where
   PassesRun _ number = ⊥
 
   -- the result is given exactly where the stylesheet and its run keep to their limits; and a limit is told exactly where one is passed
-  pub record DecidesRun (answer : RunAnswer) : Type 0 where
+  pub record DecidesRun {V : Type 0} (answer : Result V Failure) : Type 0 where
     pub yes : IsGiven answer ↔ IsRunWithin s d
     pub limit : IsToldLimit answer ↔ ((kind : Kind) × (number : ℕ) × PassesRun kind number)
 
   -- the limit that a failure tells
-  abbrev pub TellsRunLimit : RunAnswer → Type 0
+  abbrev pub TellsRunLimit : {V : Type 0} → Result V Failure → Type 0
   TellsRunLimit (Err (Passes kind number)) = PassesRun kind number
   TellsRunLimit _ = Unit {0}

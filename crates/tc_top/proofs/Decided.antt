@@ -45,7 +45,8 @@ use Rattle.tc_decide.specs.declared.verdict.Verification.{Verification}
 use Rattle.tc_decide.specs.declared.verdict.Verification.TheVariants.{Accepted, Rejected}
 use Rattle.tc_decide.proofs.Proving.{one_least}
 use Rattle.tc_model.specs.Grammars.{Grammar}
-use Rattle.tc_model.specs.Safety.{IsSafe, IsResultOf}
+use Rattle.tc_model.specs.Printed.{printed}
+use Rattle.tc_model.specs.Safety.{IsSafe}
 use Rattle.tc_model.specs.Sheets.{Sheet}
 use Rattle.tc_model.specs.Trees.{Trees}
 use Rattle.tc_model.specs.Views.{place}
@@ -53,6 +54,7 @@ use Rattle.tc_model.specs.declared.lists.CertData.{CertData}
 use Rattle.tc_print.specs.ReadBack.{IsReadAs}
 use Rattle.tc_read.specs.Sheets.{IsSheetOf}
 use Rattle.tc_read.specs.declared.faults.Reason.{Reason}
+use Rattle.tc_run.specs.Limits.{IsTextOfResult}
 use Rattle.tc_top.specs.Causes.{Finds, passes_before_rows, passes_rows, finds_safe, finds_unsafe, finds_large, finds_none_small, OfTexts, refuses_input, refuses_output, refuses_sheet, all_three, Runs, sheet_passes, too_much_work, too_open, gives_result, RunsTexts, sheet_refused, source_refused, sheet_and_source, Decides, passes, decides_valid, decides_invalid, Validates, schema_refused, document_refused, both_read}
 use Rattle.tc_top.specs.Certifying.{Certifies, as_checked, certifies, overlong, Accepts, stops_before_rows, accepts, no_text, no_certificate, Upgrades, upgrades, too_long, no_form}
 use Rattle.tc_top.specs.Comparing.{FindsInclusion, inclusion_passes, inclusion_covers, finds_included, finds_not_included, finds_none_shown, FindsEquality, equality_passes, equality_covers_forward, equality_covers_backward, finds_equal, finds_first_only, finds_second_only, finds_no_one_shown, FindsBoth, Compares, first_refused, second_refused, both_schemas}
@@ -187,12 +189,13 @@ upgrade_fails bytes name NoMemory said h says = absurd says
 -- what a run decides
 
 module _ (n m b c : List ℕ) where
-  pub run_gives : (result : Trees) → AreRunAccepted b c → ((s : Sheet) (d : Trees) → IsSheetOf b s → IsReadAs c d → IsRunWithin s d × IsResultOf s d result) → RunsTexts n m b c (has_result result)
-  run_gives result a runs =
+  pub run_gives : (bytes : List ℕ) → AreRunAccepted b c → ((s : Sheet) (d : Trees) → IsSheetOf b s → IsReadAs c d → IsRunWithin s d × IsTextOfResult s d bytes)
+      → (result : Trees) × (bytes ≡ printed result) × RunsTexts n m b c (has_result result)
+  run_gives bytes a runs =
       let (s, x) = a.sheet_spells in
       let (d, y) = a.document_spells in
-      let (within, is) = runs s d x y in
-      sheet_and_source x y (gives_result within is)
+      let (within, told) = runs s d x y in
+      (told.0, told.2, sheet_and_source x y (gives_result within told.1))
 
   limited_run : (s : Sheet) (d : Trees) (kind : Kind) (number : ℕ) → PassesRun s d kind number → Runs s d (limit_answer kind number)
   limited_run s d (Texts kind) number p = sheet_passes p
@@ -203,17 +206,17 @@ module _ (n m b c : List ℕ) where
   limited_run s d Certificate number p = absurd p
   limited_run s d (Pieces measure) number p = absurd p
 
-  pub run_fails : (failure : Failure) (said : made.Answer) → TellsRefusalOfRun b c (Err failure) → ((s : Sheet) (d : Trees) → IsSheetOf b s → IsReadAs c d → TellsRunLimit s d (Err failure))
+  pub run_fails : (V : Type 0) (failure : Failure) (said : made.Answer) → TellsRefusalOfRun {V = V} b c (Err failure) → ((s : Sheet) (d : Trees) → IsSheetOf b s → IsReadAs c d → TellsRunLimit s d {V = V} (Err failure))
       → SaysFailureBy (name_of_two n m) failure said → (answer : Answer) × Says said answer × RunsTexts n m b c answer
-  run_fails (Refused which.Input reason at) said r limits says = absurd r
-  run_fails (Refused which.Output reason at) said r limits says = absurd r
-  run_fails (Refused which.Sheet reason at) said r limits says = (_, says, sheet_refused r)
-  run_fails (Refused which.Document reason at) said ((s, x), r) limits says = (_, says, source_refused x r)
-  run_fails (Passes kind number) said a limits says =
+  run_fails V (Refused which.Input reason at) said r limits says = absurd r
+  run_fails V (Refused which.Output reason at) said r limits says = absurd r
+  run_fails V (Refused which.Sheet reason at) said r limits says = (_, says, sheet_refused r)
+  run_fails V (Refused which.Document reason at) said ((s, x), r) limits says = (_, says, source_refused x r)
+  run_fails V (Passes kind number) said a limits says =
       let (s, x) = a.sheet_spells in
       let (d, y) = a.document_spells in
       (_, says, sheet_and_source x y (limited_run s d kind number (limits s d x y)))
-  run_fails NoMemory said r limits says = absurd says
+  run_fails V NoMemory said r limits says = absurd says
 
 -- what a comparison decides
 

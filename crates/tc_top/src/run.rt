@@ -11,7 +11,6 @@ ghost use Rattle.tc_top.specs.Causes.{RunsTexts};
 
 use crate::unread::answer_unread;
 use crate::verdicts::answer_pair_failure;
-use bumpalo::Bump;
 use std::alloc::Global;
 use tc_answer::{Answer, Operand, Source, read_pair};
 use tc_base::NoMemory;
@@ -44,9 +43,8 @@ fn run_texts(alloc: Global, sheet: &Operand<'_>, document: &Operand<'_>) -> Resu
         × RunsTexts sheet.now.name.now document.now.name.now sheet.now.text.items
         document.now.text.items answer) }
 {
-    let arena = Bump::new(alloc);
-    match tc_decide::run(&arena, alloc, &sheet.text, &document.text) {
-        Ok(nodes) => Answer::result(alloc, nodes),
+    match tc_decide::run(alloc, &sheet.text, &document.text) {
+        Ok(text) => Answer::written(text),
         Err(failure) => answer_pair_failure(alloc, sheet.name, document.name, failure),
     }
 }
