@@ -28,7 +28,7 @@ const DOCUMENT: &str = "<a>s<b><c>t</c></b><b/>u</a>";
 const GOOD: &str = "<xsl:template match='a'><x/></xsl:template>";
 
 /// Rules, documents, the status, and what is written.
-static ROWS: [Row<'static>; 26] = [
+static ROWS: [Row<'static>; 29] = [
     // rules are chosen
     (
         DOUBLING,
@@ -84,6 +84,24 @@ static ROWS: [Row<'static>; 26] = [
         DOCUMENT,
         Status::Yes,
         "x <y>z</y>\n",
+    ),
+    (
+        "<xsl:template match='/'><xsl:text> </xsl:text>x<y/></xsl:template>",
+        DOCUMENT,
+        Status::Yes,
+        " x<y/>\n",
+    ),
+    (
+        "<xsl:template match='/'><xsl:text> </xsl:text><y/><xsl:text> </xsl:text></xsl:template>",
+        DOCUMENT,
+        Status::Yes,
+        "<y/>\n",
+    ),
+    (
+        "<xsl:template match='/'><a xmlns='u'><b xmlns=''>x</b><c/></a><d/></xsl:template>",
+        DOCUMENT,
+        Status::Yes,
+        "<a xmlns=\"u\"><b xmlns=\"\">x</b><c/></a><d/>\n",
     ),
     (
         "<xsl:template match='a'><xsl:element name='e'><xsl:apply-templates select='b'/></xsl:element></xsl:template>",
@@ -383,8 +401,16 @@ static WORK: [Case<'static>; 2] = [
 const OPENING: &str =
     "<xsl:template match='a'><x><x><x><xsl:apply-templates/></x></x></x></xsl:template>";
 
+/// Rules for the root that go on within three elements and within four. With the first, 1,599 elements of the document have open the
+/// body and the four instructions of the root's rule, and five of each of theirs: 8,000.
+const WITHIN_THREE: &str =
+    "<xsl:template match='/'><r><r><r><xsl:apply-templates/></r></r></r></xsl:template>";
+
+const WITHIN_FOUR: &str =
+    "<xsl:template match='/'><r><r><r><r><xsl:apply-templates/></r></r></r></r></xsl:template>";
+
 /// A rule that goes on within three elements, and one that goes on within 1,990.
-static OPEN: [Case<'static>; 5] = [
+static OPEN: [Case<'static>; 7] = [
     Case {
         what: "many bodies are open",
         words: RUN,
@@ -399,6 +425,32 @@ static OPEN: [Case<'static>; 5] = [
             Times("</x>", 4_796),
             Once("\n"),
         ],
+    },
+    Case {
+        what: "as many bodies and instructions are open as may be",
+        words: RUN,
+        files: &[
+            ("S", &[FRONT, Once(OPENING), Once(WITHIN_THREE), BACK]),
+            ("D", &[Times("<a>", 1_599), Times("</a>", 1_599)]),
+        ],
+        status: Status::Yes,
+        text: &[
+            Once("<r><r><r>"),
+            Times("<x>", 4_796),
+            Once("<x/>"),
+            Times("</x>", 4_796),
+            Once("</r></r></r>\n"),
+        ],
+    },
+    Case {
+        what: "one instruction more is open, which selects nothing",
+        words: RUN,
+        files: &[
+            ("S", &[FRONT, Once(OPENING), Once(WITHIN_FOUR), BACK]),
+            ("D", &[Times("<a>", 1_599), Times("</a>", 1_599)]),
+        ],
+        status: Status::Limit,
+        text: &[Once("limit open 8000\n")],
     },
     Case {
         what: "too many bodies are open",

@@ -1,6 +1,5 @@
 // Tests of `run`.
-use crate::texts::{bytes_of, prints, sheet_of};
-use bumpalo::Bump;
+use crate::texts::{bytes_of, sheet_of};
 use std::alloc::Global;
 use tc_base::{Limit, Place};
 use tc_decide::{Failure, Kind, Which, run};
@@ -17,10 +16,9 @@ fn gives(alloc: Global, rules: &str, document: &str, told: Result<&str, Failure>
     };
     let sheet = bytes_of(&text)?;
     let bytes = bytes_of(document)?;
-    let arena = Bump::new(alloc);
-    match run(&arena, alloc, sheet, bytes) {
-        Ok(nodes) => match told {
-            Ok(result) => Some(prints(alloc, nodes, result)),
+    match run(alloc, sheet, bytes) {
+        Ok(text) => match told {
+            Ok(result) => Some(text.as_slice() == result.as_bytes()),
             Err(_) => Some(false),
         },
         Err(failure) => Some(told == Err(failure)),

@@ -83,7 +83,17 @@ fn alphabet_of(alloc: Global, grammar: &Grammar<'_>) -> Result<Alphabet, Fail> {
     }
 }
 
-/// The answer of a text in pieces, by the automaton and the symbols of a schema.
+/// The answer of a stream to which a text is fed in pieces of so many bytes.
+fn answer_through(mut stream: Stream<'_>, text: &[u8], size: usize) -> Answer
+    requires { 0 < size }
+{
+    let is_right = stays(&mut stream, text, size);
+    let answer = answer_of(stream.finish());
+    if is_right { answer } else { Answer::Broken }
+}
+
+/// The answer of a text in pieces, by the automaton and the symbols of a schema: of a stream that reads each piece at
+/// once, and of one that holds small pieces.
 fn answer_by(
     alloc: Global,
     auto: &Auto<'_>,
@@ -94,10 +104,11 @@ fn answer_by(
     if size == 0 || auto.states() > 512 {
         return Err(Fail::from("a piece and states"));
     }
-    let mut stream = Stream::new(alloc, auto, alphabet)?;
-    let is_right = stays(&mut stream, text, size);
-    let answer = answer_of(stream.finish());
-    Ok(if is_right { answer } else { Answer::Broken })
+    let at_once = Stream::holding(alloc, auto, alphabet, 0)?;
+    let answer = answer_through(at_once, text, size);
+    let holding = Stream::new(alloc, auto, alphabet)?;
+    let is_same = answer_through(holding, text, size) == answer;
+    Ok(if is_same { answer } else { Answer::Broken })
 }
 
 /// The answer of a text in pieces.
