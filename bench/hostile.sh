@@ -416,7 +416,8 @@ row '1 rule 1 used <a/>' 'uncalled 1800' dead I S
 row '0 $' 'one_body 2600' run S D
 row '4 limit work 4000000' 'twice 22 0' run S D
 beyond '4 limit work 4000000' 'twice 22 5000' run S D
-beyond '4 limit work 4000000' 'all_applied 2500 4' run S D
+row '4 limit work 4000000' 'all_applied 2500 4' run S D
+beyond '4 limit work 4000000' 'none_applied 1500 4 1' run S D
 row '4 limit predicates 6' 'nested 1 1999' run S D
 row '4 limit predicates 6' 'nested 16 1999' run S D
 row '4 limit selects 4096' 'selects 100000' run S D

@@ -23,7 +23,8 @@ What is long:
   definitions N       references in a row; repeated_definitions N: each in a repetition
   calls N, modes N    templates in a row; twice N M: each calls the next one twice, the last has M tests that don't hold
   uncalled N          named templates that nobody calls; one_body N: N selects in one body; all_applied N M: of all
-                      children, in each of M elements within one another
+                      children, in each of M elements within one another; none_applied N M K: of children of a name that
+                      only those above the last have, which has K others
   one PART N          a document or a schema of about N bytes, which are one PART of it
   marks MARKS N       N bytes of MARKS, or so many of the one with a number, as a schema, a stylesheet, a document and, where an
                       attribute holds them, a select
@@ -284,6 +285,11 @@ def all_applied(count, depth):
     return {"S": sheet(rule("*", f"<xsl:copy>{APPLY * count}</xsl:copy>")), "D": within("<a>", "", "</a>", depth)}
 
 
+def none_applied(count, depth, others):
+    selects = '<xsl:apply-templates select="a"/>' * count
+    return {"S": sheet(rule("*", f"<xsl:copy>{selects}</xsl:copy>")), "D": within("<a>", "<b/>" * others, "</a>", depth)}
+
+
 PARTS = {
     "text": ("<a>", "x", "</a>"),
     "white": ("<a>", "\r", "</a>"),
@@ -539,7 +545,8 @@ def levels(count, depth):
 KINDS = (
     elements, braces, groups, pluses, empties, suffixed, starts, classes, excepts, excepts_attribute, divisions, balanced,
     particles, tests, predicate, brackets, ifs, spots, reach, copies, branches, applies, residues, rows, definitions, repeated_definitions, calls,
-    modes, uncalled, one_body, twice, all_applied, one, marks, attributes, tags, long_namespace, references, reference, cut_tag, declarations, scopes,
+    modes, uncalled, one_body, twice, all_applied, none_applied, one, marks, attributes, tags, long_namespace, references, reference,
+    cut_tag, declarations, scopes,
     prefixes, prefixed, long_calls, schema_prefixes, chains, others, alike, alike_templates, unlike, names, optionals,
     interleaves, doubled, stars, subsets, nested, selects, alternatives, pairs, path, windows, ancestors, levels,
 )  # fmt: skip
